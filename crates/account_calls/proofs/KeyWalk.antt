@@ -1,12 +1,14 @@
 -- The keys of a bucket, rolled up page by page.
-use Rattle.std.proofs.Common.{◌≡◌, ℕ, zero, suc, ◌+◌, ◌*◌, ◌<◌, ◌≤◌, IsTrue, Bool, true, false, not, cond, ◌&&◌, nat_lt, T, List, [], ◌∷◌, length, take, Result, Ok, Err, refl, sym, ap, subst, ◌∙◌, arith}
+use Rattle.std.proofs.Common.{◌≡◌, ℕ, zero, suc, ◌+◌, ◌*◌, ◌<◌, ◌≤◌, IsTrue, Bool, true, false, not, cond, ◌&&◌, nat_lt, T, List, [], ◌∷◌, map, length, take, Result, Ok, Err, refl, sym, ap, subst, ◌∙◌, arith}
 use Rattle.std.specs.Result.{IsErrAnd}
-use Rattle.std.specs.List.{filter}
+use Rattle.std.specs.List.{filter, list_all}
 use Rattle.std.specs.Ordering.{is_lt}
-use Rattle.std.specs.FinMap.{len}
+use Rattle.std.specs.FinMap.{entries, get, is_sorted, len}
+use Rattle.std.proofs.lemmas.List.{length-map}
 use Rattle.gate_base.specs.Maps.{name_cmp}
 use Rattle.s3_names.specs.Bucket.{is_bucket}
-use Rattle.s3_machine.specs.Items.{behind}
+use Rattle.s3_machine.specs.Items.{begins, behind}
+use Rattle.s3_machine.specs.Step.{listed_key}
 use Rattle.s3_machine.specs.declared.items.Asked.{Asked}
 use Rattle.s3_machine.specs.declared.items.Item.{Item}
 use Rattle.s3_machine.specs.declared.items.ItemHead.{ItemHead}
@@ -14,30 +16,25 @@ use Rattle.swift_calls.specs.Account.{SwiftAccount, files}
 use Rattle.swift_calls.specs.History.{History, present, Extends}
 use Rattle.upload_records.specs.Native.{IsSettled, s3_state}
 use Rattle.list_pages.specs.Rolling.{Wanted, all_rows, first_rows, Rolled}
-use Rattle.list_pages.specs.Rolls.{Rolls, rows_of, wanted}
-use Rattle.list_pages.proofs.lemmas.Sorted.{rises_sorted, sorted_filter}
-use Rattle.list_pages.proofs.lemmas.Starting.{AllKept, rolled_none, rolled_before}
+use Rattle.list_pages.specs.Jumps.{next_marker}
+use Rattle.list_pages.specs.Rolls.{Rolls, row_view, rows_of, wanted}
+use Rattle.list_pages.proofs.lemmas.Skipping.{rolled_first, shown_within}
+use Rattle.list_pages.proofs.lemmas.Sorted.{all_filter, filter_passes, rises_sorted}
+use Rattle.list_pages.proofs.lemmas.Turning.{split_at_marker}
 use Rattle.account_calls.specs.declared.fault.PlanFault.{PlanFault}
-use Rattle.account_calls.specs.Answers.{pages}
-use Rattle.account_calls.specs.Keys.{keys_with, up_to, HasRolled, TellsListing, TellsTaken}
+use Rattle.account_calls.specs.Answers.{items_shown, pages, pages_listed}
+use Rattle.account_calls.specs.Keys.{keys_with, objects_in, up_to, HasRolled, TellsListing, TellsTaken}
 use Rattle.account_calls.specs.Listing.{TellsOf}
 use Rattle.account_calls.specs.Calls.{Bound, always, by_account, GoesOn, Met, Asks, Tells}
 use Rattle.account_calls.proofs.KeyPages.{keys_within}
-use Rattle.account_calls.proofs.Taken.{keys_sorted, keys_fit}
+use Rattle.account_calls.proofs.Taken.{keys_sorted}
 use Rattle.account_calls.proofs.lemmas.Faults.{err_is}
 use Rattle.account_calls.proofs.lemmas.Idle.{goes_none, goes_trans, none_made, grows_none}
 use Rattle.account_calls.proofs.lemmas.One.{tells_state}
 use Rattle.account_calls.specs.Told.{Idles}
 use Rattle.account_calls.proofs.lemmas.Walk.{idles_none, idles_trans, cause_after, keeps_after}
 
--- ---- the keys up to the marker
-
-up_to_kept : (marker : List ℕ) (ks : List (List ℕ × ItemHead)) → AllKept marker (up_to marker ks)
-up_to_kept marker [] = tt
-up_to_kept marker (k ∷ ks) = elim (is_lt (name_cmp marker k.0)) as (λ t. is_lt (name_cmp marker k.0) ≡ t → AllKept marker (cond (not t) (k ∷ up_to marker ks) (up_to marker ks))) [
-  | true ↦ λ e. up_to_kept marker ks
-  | false ↦ λ e. (e, up_to_kept marker ks)
-] refl
+-- ---- the keys up to where the listing begins
 
 shorter : (p : List ℕ × ItemHead → Bool) (ks : List (List ℕ × ItemHead)) → length (filter p ks) ≤ length ks
 shorter p [] = omega arith
@@ -47,22 +44,32 @@ module _ (bucket : List ℕ) (asked : Asked) (tree : SwiftAccount) where
   abbrev keys : List (List ℕ × ItemHead)
   keys = keys_with bucket asked.prefix (s3_state tree)
 
-  rolled_first : Rolled (wanted asked) [] false (up_to (wanted asked).marker keys)
-  rolled_first =
-      let m = (wanted asked).marker in
-      rolled_before (wanted asked) [] false [] (up_to m keys) (up_to_kept m keys)
-      (rises_sorted asked.prefix [] (up_to m keys) (sorted_filter (λ k. not (is_lt (name_cmp m k.0))) keys (keys_sorted bucket asked.prefix tree)) (keys_fit bucket asked.prefix tree (λ k. not (is_lt (name_cmp m k.0)))))
-      (rolled_none ItemHead (wanted asked))
+  abbrev from : List ℕ
+  from = next_marker asked.prefix asked.delimiter (wanted asked).marker
+
+  fit : list_all (λ k. begins asked.prefix k.0) keys ≡ true
+  fit = filter_passes (λ k. begins asked.prefix k.0) (map listed_key (entries (objects_in (get (s3_state tree) bucket))))
+
+  -- no more items are shown than of all keys
+  items_within : (roll : Rolls) → roll.wanted ≡ wanted asked → HasRolled roll (up_to roll.last keys) → length roll.items ≤ items_shown bucket asked (s3_state tree)
+  items_within roll wants r =
+      let sorted = keys_sorted bucket asked.prefix tree in
+      let cut = split_at_marker roll.last keys sorted in
+      let rises = rises_sorted asked.prefix (up_to roll.last keys) (behind roll.last keys) (subst (λ l. T (is_sorted name_cmp l)) cut sorted)
+      (all_filter (λ k. begins asked.prefix k.0) (λ k. is_lt (name_cmp roll.last k.0)) keys fit) in
+      let within = shown_within (wanted asked) (up_to roll.last keys) (behind roll.last keys) (subst (λ w. Rolled w (rows_of roll.items) roll.more (up_to roll.last keys)) wants r) rises in
+      omega (arith, within, length-map roll.items row_view, ap (λ l. length (first_rows (wanted asked) l).0) cut)
 
 -- ---- page by page
 
--- so far the keys are rolled up as far as the last name
+-- so far the keys are rolled up as far as the next page begins, and each page showed an item more
 pub record RolledSo (a b : History) (bucket prefix : List ℕ) (roll : Rolls) : Type 0 where
   pub count : ℕ
   pub calls : b.called ≤ a.called + count
   pub idles : Idles b a.called b.called
   pub rolled : HasRolled roll (up_to roll.last (keys_with bucket prefix (s3_state (present a))))
   pub fewer : length (behind roll.last (keys_with bucket prefix (s3_state (present a)))) + 1000 * count ≤ length (keys_with bucket prefix (s3_state (present a)))
+  pub shows : count ≤ length roll.items
 
 pub record Rolling (a b : History) (bucket prefix : List ℕ) (roll : Rolls) : Type 0 where
   pub on : GoesOn a b
@@ -70,17 +77,18 @@ pub record Rolling (a b : History) (bucket prefix : List ℕ) (roll : Rolls) : T
   pub settled : IsTrue a.observable → IsSettled (present a) → IsSettled (present b)
   pub so : Met IsSettled a → RolledSo a b bucket prefix roll
 
-pub rolling_none : (a : History) (bucket : List ℕ) (asked : Asked) (roll : Rolls) → roll ≡ record { wanted = wanted asked; items = []; more = false; last = (wanted asked).marker } → Rolling a a bucket asked.prefix roll
+pub rolling_none : (a : History) (bucket : List ℕ) (asked : Asked) (roll : Rolls) → roll ≡ record { wanted = wanted asked; items = []; more = false; last = next_marker asked.prefix asked.delimiter (wanted asked).marker } → Rolling a a bucket asked.prefix roll
 rolling_none a bucket asked roll is = subst (Rolling a a bucket asked.prefix) (sym is) (record {
   on = goes_none a;
   faults = refl;
   settled = λ observable settled. settled;
-  so = λ met. let less = shorter (λ k. is_lt (name_cmp (wanted asked).marker k.0)) (keys bucket asked (present a)) in record {
+  so = λ met. let less = shorter (λ k. is_lt (name_cmp (from bucket asked (present a)) k.0)) (keys bucket asked (present a)) in record {
     count = 0;
     calls = omega arith;
     idles = idles_none a met.sound;
-    rolled = rolled_first bucket asked (present a);
+    rolled = rolled_first (wanted asked) (keys bucket asked (present a)) (keys_sorted bucket asked.prefix (present a)) (fit bucket asked (present a));
     fewer = omega (arith, less);
+    shows = omega arith;
   };
 })
 
@@ -97,6 +105,16 @@ module _ {a b : History} {bucket prefix : List ℕ} {roll : Rolls} (walked : Rol
 
   same_here : Met IsSettled a → present b ≡ present a
   same_here met = (walked.so met).idles.same ∙ (walked.on.kept met.observable).accounts a.called (omega arith)
+
+  -- one page more is within the bound
+  so_within : Met IsSettled a → (so : RolledSo a b bucket prefix roll) → is_bucket bucket ≡ true → (asked : Asked) → asked.prefix ≡ prefix → roll.wanted ≡ wanted asked
+      → (so.count + 1 ≤ pages (len (files (present a) bucket))) × (so.count + 1 ≤ items_shown bucket asked (s3_state (present a)) + 1)
+  so_within met so named asked same wants =
+      let fewer = so.fewer in
+      let within = keys_within (present a) bucket named met.sound met.has prefix in
+      let shows = so.shows in
+      let items = items_within bucket asked (present a) roll wants (subst (λ p. HasRolled roll (up_to roll.last (keys_with bucket p (s3_state (present a))))) (sym same) so.rolled) in
+      (omega (arith, fewer, within), omega (arith, shows, items))
 
   module _ {new : Rolls} {c : History} {told : Bool} (asks : Asks (always 1) b c IsSettled (TellsOf (TellsTaken bucket prefix roll new)) (Ok told)) where
     later : Met IsSettled a → Extends b.called b c
@@ -125,29 +143,31 @@ module _ {a b : History} {bucket prefix : List ℕ} {roll : Rolls} (walked : Rol
           let before = so.calls in
           let fewer = so.fewer in
           let more = tells.fewer in
+          let shown = so.shows in
+          let shows = tells.shows so.rolled in
           record {
             count = so.count + 1;
             calls = omega (arith, calls, before);
             idles = idles_then met;
             rolled = tells.rolled so.rolled;
             fewer = omega (arith, fewer, more);
+            shows = omega (arith, shown, shows);
           };
     }
 
     -- the last page
-    pub rolling_end : told ≡ false → is_bucket bucket ≡ true → (asked : Asked) → asked.prefix ≡ prefix → new.wanted ≡ wanted asked → (result : List Item × Bool)
+    pub rolling_end : told ≡ false → is_bucket bucket ≡ true → (asked : Asked) → asked.prefix ≡ prefix → new.wanted ≡ wanted asked → (result : List Item × Bool) → roll.wanted ≡ wanted asked
         → ((seen : List (List ℕ × ItemHead)) → HasRolled new seen → (rows_of result.0, result.1) ≡ first_rows new.wanted seen)
-        → Asks (by_account (pages (len (files (present a) bucket)))) a c IsSettled (Tells (TellsListing bucket asked)) (Ok result)
-    rolling_end is named asked same wants result listed = record {
+        → Asks (by_account (pages_listed bucket asked (present a))) a c IsSettled (Tells (TellsListing bucket asked)) (Ok result)
+    rolling_end is named asked same wants result before_wants listed = record {
       grows = record {
         on = goes_trans walked.on asks.grows.on;
         calls = λ met.
             let so = walked.so met in
             let calls = asks.grows.calls in
             let before = so.calls in
-            let fewer = so.fewer in
-            let within = keys_within (present a) bucket named met.sound met.has prefix in
-            omega (arith, calls, before, fewer, within);
+            let room = so_within met so named asked same before_wants in
+            omega (arith, calls, before, room.0, room.1);
       };
       cause = asks.cause ∙ walked.faults;
       effect = λ met.
@@ -162,18 +182,17 @@ module _ {a b : History} {bucket prefix : List ℕ} {roll : Rolls} (walked : Rol
     }
 
   -- a page that wasn't taken
-  pub rolling_fault : {T : Type 0} {P : SwiftAccount → T → Type 0} {c : History} {f : PlanFault} → Asks (always 1) b c IsSettled (TellsOf P) (Err f) → is_bucket bucket ≡ true → (asked : Asked)
-      → (result : Result (List Item × Bool) PlanFault) → IsErrAnd result (λ e. e ≡ f) → Asks (by_account (pages (len (files (present a) bucket)))) a c IsSettled (Tells (TellsListing bucket asked)) result
-  rolling_fault {T = T} {P = P} {c = c} {f = f} asks named asked result is = subst (Asks (by_account (pages (len (files (present a) bucket)))) a c IsSettled (Tells (TellsListing bucket asked))) (sym (err_is result f is)) (record {
+  pub rolling_fault : {T : Type 0} {P : SwiftAccount → T → Type 0} {c : History} {f : PlanFault} → Asks (always 1) b c IsSettled (TellsOf P) (Err f) → is_bucket bucket ≡ true → (asked : Asked) → asked.prefix ≡ prefix → roll.wanted ≡ wanted asked
+      → (result : Result (List Item × Bool) PlanFault) → IsErrAnd result (λ e. e ≡ f) → Asks (by_account (pages_listed bucket asked (present a))) a c IsSettled (Tells (TellsListing bucket asked)) result
+  rolling_fault {T = T} {P = P} {c = c} {f = f} asks named asked same wants result is = subst (Asks (by_account (pages_listed bucket asked (present a))) a c IsSettled (Tells (TellsListing bucket asked))) (sym (err_is result f is)) (record {
     grows = record {
       on = goes_trans walked.on asks.grows.on;
       calls = λ met.
           let so = walked.so met in
           let calls = asks.grows.calls in
           let before = so.calls in
-          let fewer = so.fewer in
-          let within = keys_within (present a) bucket named met.sound met.has prefix in
-          omega (arith, calls, before, fewer, within);
+          let room = so_within met so named asked same wants in
+          omega (arith, calls, before, room.0, room.1);
     };
     cause = cause_after T (List Item × Bool) a.faults b.faults c.faults f walked.faults asks.cause;
     effect = λ met. tells_state (TellsListing bucket asked) c a.called c.called (Err f) (keeps_after T (List Item × Bool) P (λ tree told. TellsListing bucket asked (s3_state tree) told) b c a.called b.called c.called f walked.on.ordered

@@ -1,16 +1,17 @@
 -- A page of keys was taken.
-use Rattle.std.proofs.Common.{◌≡◌, ℕ, zero, suc, ◌≤◌, ◌<◌, Bool, true, false, not, nat_eq, T, List, [], ◌∷◌, ◌++◌, map, length, take, drop, refl, sym, ap, subst, ◌∙◌, arith, append_assoc}
+use Rattle.std.proofs.Common.{◌≡◌, ℕ, zero, suc, ◌+◌, ◌≤◌, ◌<◌, ◌==◌, ◌||◌, Bool, true, false, not, T, List, [], ◌∷◌, ◌++◌, map, length, take, drop, refl, sym, ap, subst, ◌∙◌, arith, append_assoc}
 use Rattle.std.specs.List.{filter, list_all}
-use Rattle.std.specs.Ordering.{is_lt}
+use Rattle.std.specs.Ordering.{is_gt, is_lt}
 use Rattle.std.specs.FinMap.{entries, entries_sorted, get, is_sorted}
 use Rattle.std.specs.FinMap.Entries.{below_all}
-use Rattle.std.proofs.lemmas.Bool.{and_parts}
+use Rattle.std.proofs.lemmas.Bool.{and_parts, or_right}
 use Rattle.std.proofs.lemmas.Bool.Decides.{nat_tests}
 use Rattle.std.proofs.lemmas.List.{length-map, length-take, length-append, take-append-drop}
 use Rattle.std.proofs.lemmas.List.Folds.{list_all-append}
 use Rattle.gate_base.specs.Maps.{name_cmp}
 use Rattle.s3_names.specs.Key.{is_key}
-use Rattle.s3_machine.specs.Items.{begins, behind}
+use Rattle.s3_machine.specs.Items.{begins, behind, row_of}
+use Rattle.s3_machine.specs.Limits.{is_listing_text}
 use Rattle.s3_machine.specs.State.{Object}
 use Rattle.s3_machine.specs.Step.{listed_key}
 use Rattle.s3_machine.specs.declared.items.ItemHead.{ItemHead}
@@ -18,13 +19,18 @@ use Rattle.swift_calls.specs.Account.{SwiftAccount}
 use Rattle.swift_calls.specs.Limits.{IsMarker}
 use Rattle.swift_calls.specs.declared.heads.NameItem.{NameItem}
 use Rattle.upload_records.specs.Native.{s3_state}
-use Rattle.list_pages.specs.Listing.{is_listed_name_with_prefix, last_of, name_in}
-use Rattle.list_pages.specs.Rolling.{Rises}
-use Rattle.list_pages.specs.Rolls.{Rolls, rows_of, seen_of}
+use Rattle.list_pages.specs.Jumps.{jumped, next_marker}
+use Rattle.list_pages.specs.Listing.{is_listed_name_with_prefix, last_of, name_in, Ascends, IsPageOf}
+use Rattle.list_pages.specs.Rolling.{Wanted, all_rows, ends, Rises, Rolled, UpTo}
+use Rattle.list_pages.specs.Rolls.{Rolls, row_view, rows_of, seen_of}
+use Rattle.list_pages.proofs.lemmas.Jumps.{marker_upto, next_is_marker}
+use Rattle.list_pages.proofs.lemmas.Rising.{upto_same, upto_trans}
+use Rattle.list_pages.proofs.lemmas.Skipping.{behind_fewer, rolled_on, shown_more, shows_another}
 use Rattle.list_pages.proofs.lemmas.Pages.{parts, roll_rest}
-use Rattle.list_pages.proofs.lemmas.Sorted.{both, sorted_filter, rises_sorted, rises_front, with_prefix_behind}
+use Rattle.list_pages.proofs.lemmas.Sorted.{both, filter_passes, sorted_filter, rises_sorted, rises_front, with_prefix_behind}
 use Rattle.list_pages.proofs.lemmas.Turning.{page_turned, split_at_marker}
-use Rattle.account_calls.specs.Keys.{objects_in, keys_with, TellsKeys, up_to, HasRolled, GoesOnWith, TellsTaken}
+use Rattle.account_calls.specs.Keys.{objects_in, keys_with, TellsKeys, up_to, HasRolled, GoesOnWith, StandsBehind}
+use Rattle.account_calls.proofs.lemmas.Markers.{text_is_marker}
 use Rattle.account_calls.proofs.lemmas.Names.{object_name}
 
 -- ---- the keys of a bucket are sorted
@@ -80,12 +86,46 @@ key_is_marker name is =
     let within = text.within in
     record { within = omega (arith, within); utf8 = text.utf8; no_zero = text.no_zero }
 
--- the last name of a page may be a marker
-pub last_is_marker : (prefix marker : List ℕ) (names : List (List ℕ)) → IsMarker marker → list_all (is_listed_name_with_prefix prefix) names ≡ true → IsMarker (last_of marker names)
-last_is_marker prefix marker [] is_marker all = is_marker
-last_is_marker prefix marker (name ∷ names) is_marker all =
-    let a = and_parts (is_listed_name_with_prefix prefix name) (list_all (is_listed_name_with_prefix prefix) names) all in
-    last_is_marker prefix name names (key_is_marker name (and_parts (is_key name) (begins prefix name) a.0).0) a.1
+last_of_two : (a b : Bool) → a ≡ false → (a || b) ≡ true → b ≡ true
+last_of_two true b e h = cc
+last_of_two false b e h = h
+
+filled : (n : ℕ) → (suc n == 0) ≡ false
+filled n = grind (arith, nat_tests)
+
+pub listing_is_marker : (text : List ℕ) → is_listing_text text ≡ true → IsMarker text
+unfolding is_listing_text
+listing_is_marker [] h = text_is_marker [] refl (omega arith)
+listing_is_marker (b ∷ text) h = key_is_marker (b ∷ text) (last_of_two (length (b ∷ text) == 0) (is_key (b ∷ text)) (filled (length text)) h)
+
+-- a key is a text of a listing
+pub key_is_text : (name : List ℕ) → is_key name ≡ true → is_listing_text name ≡ true
+unfolding is_listing_text
+key_is_text name is = or_right (length name == 0) (is_key name) is
+
+-- the last name of a page is a key with the prefix
+last_is_key : (prefix marker : List ℕ) (names : List (List ℕ)) → 0 < length names → list_all (is_listed_name_with_prefix prefix) names ≡ true → is_listed_name_with_prefix prefix (last_of marker names) ≡ true
+last_is_key prefix marker [] some all = absurd (omega (arith, some))
+last_is_key prefix marker (name ∷ []) some all = (and_parts (is_listed_name_with_prefix prefix name) true all).0
+last_is_key prefix marker (name ∷ other ∷ names) some all =
+    last_is_key prefix name (other ∷ names) (omega arith) (and_parts (is_listed_name_with_prefix prefix name) (list_all (is_listed_name_with_prefix prefix) (other ∷ names)) all).1
+
+-- and comes after the marker
+last_is_later : (marker : List ℕ) (names : List (List ℕ)) → Ascends marker names → UpTo marker (last_of marker names)
+last_is_later marker [] h = upto_same marker marker refl
+last_is_later marker (name ∷ names) h = upto_trans marker name (last_of name names) (ap is_gt h.0) (last_is_later name names h.1)
+
+first_item : {X : Type 0} (xs : List X) → 0 < length xs → (x : X) × (rest : List X) × (xs ≡ x ∷ rest)
+first_item [] some = absurd (omega (arith, some))
+first_item (x ∷ xs) some = (x, xs, refl)
+
+-- ---- behind a name
+
+pub stands_upto : (rolls : Rolls) → is_listing_text rolls.wanted.delimiter ≡ true → (stands : StandsBehind rolls) → UpTo rolls.wanted.marker rolls.last
+stands_upto rolls of_d stands =
+    let p = rolls.wanted.prefix in
+    let d = rolls.wanted.delimiter in
+    subst (UpTo rolls.wanted.marker) (sym stands.last) (upto_trans rolls.wanted.marker stands.name (next_marker p d stands.name) stands.from (marker_upto p d of_d stands.name stands.is_text))
 
 -- ---- what was taken
 
@@ -139,26 +179,100 @@ module _ (bucket prefix : List ℕ) (tree : SwiftAccount) (old new : Rolls) (pag
   taken_short near r = subst (HasRolled new) (ap (λ l. before ++ l) (short 1000 rest (subst (λ n. n < 1000) length_page near)) ∙ sym cut) (rolled r)
 
   -- the page is whole
-  pub taken_whole : 1000 ≤ length page → new.last ≡ last_of old.last (map name_in page) → GoesOnWith ks old new
-  taken_whole far last =
-      let long = length_page in
-      let s = split_filled (map seen_of page) (omega (arith, far, length-map page seen_of)) in
-      let turned = page_turned old.last ks s.0 s.1 1000 sorted (sym tells.keys ∙ s.2) in
-      let last_is : new.last ≡ s.1.0 = last ∙ ap (last_of old.last) (names_seen page ∙ ap (map (λ k. k.0)) s.2 ∙ map_last s.0 s.1) ∙ last_more old.last (map (λ k. k.0) s.0) s.1.0 in
-      record {
-        rolled = λ r. subst (HasRolled new) (sym (ap (λ t. up_to t ks) last_is ∙ turned.1)) (rolled r);
-        fewer = omega (arith, far, long, ap length (ap (λ t. behind t ks) last_is ∙ turned.0), sym (length-append (take 1000 rest) (drop 1000 rest)) ∙ ap length (take-append-drop 1000 rest), length-take 1000 rest);
-      }
+  module _ (of_page : IsPageOf prefix old.last (map name_in page)) (whole : 1000 ≤ length page) (last : new.last ≡ last_of old.last (map name_in page)) (of_d : is_listing_text old.wanted.delimiter ≡ true) (stands : StandsBehind old) where
+    abbrev w : Wanted
+    w = old.wanted
 
-  -- another page is wanted, or this was the last one
-  pub taken_next : (n : ℕ) → n ≡ length page → length page ≤ 1000 → new.last ≡ last_of old.last (map name_in page) → TellsTaken bucket prefix old new tree (nat_eq n 1000)
-  taken_next n is within last = by (nat_eq n 1000) refl
-    where
-      by : (t : Bool) → t ≡ nat_eq n 1000 → TellsTaken bucket prefix old new tree t
-      by true e = taken_whole (grind (arith, nat_tests, e, is)) last
-      by false e = taken_short (grind (arith, nat_tests, e, is, within))
+    abbrev next : List ℕ → List ℕ
+    next n = next_marker w.prefix w.delimiter n
+
+    some_names : 0 < length (map name_in page)
+    some_names = omega (arith, whole, length-map page name_in)
+
+    last_both : (is_key new.last ≡ true) × (begins prefix new.last ≡ true)
+    last_both = and_parts (is_key new.last) (begins prefix new.last)
+        (subst (λ n. is_listed_name_with_prefix prefix n ≡ true) (sym last) (last_is_key prefix old.last (map name_in page) some_names of_page.named))
+
+    last_text : is_listing_text new.last ≡ true
+    last_text = key_is_text new.last last_both.0
+
+    last_upto : UpTo new.last (next new.last)
+    last_upto = marker_upto w.prefix w.delimiter of_d new.last last_text
+
+    fit : list_all (λ k. begins w.prefix k.0) ks ≡ true
+    fit = subst (λ p. list_all (λ k. begins p k.0) ks ≡ true) (sym same) (filter_passes (λ k. begins prefix k.0) (map listed_key (entries (objects_in (get (s3_state tree) bucket)))))
+
+    last_key : (front : List (List ℕ × ItemHead)) × (e : List ℕ × ItemHead) × (map seen_of page ≡ front ++ e ∷ [])
+    last_key = split_filled (map seen_of page) (omega (arith, whole, length-map page seen_of))
+
+    abbrev end : List ℕ × ItemHead
+    end = last_key.1
+
+    last_is : new.last ≡ end.0
+    last_is = last ∙ ap (last_of old.last) (names_seen page ∙ ap (map (λ k. k.0)) last_key.2 ∙ map_last last_key.0 end) ∙ last_more old.last (map (λ k. k.0) last_key.0) end.0
+
+    turned : (behind end.0 ks ≡ drop 1000 rest) × (up_to end.0 ks ≡ before ++ take 1000 rest)
+    turned = page_turned old.last ks last_key.0 end 1000 sorted (sym tells.keys ∙ last_key.2)
+
+    -- the same rows, by what was wanted before
+    rolled_as : HasRolled old before → Rolled w (rows_of new.items) new.more (before ++ take 1000 rest)
+    rolled_as r = subst (λ x. Rolled x (rows_of new.items) new.more (before ++ take 1000 rest)) kept (rolled r)
+
+    rolled_past : HasRolled old before → HasRolled (jumped new) (up_to (jumped new).last ks)
+    rolled_past r =
+        let at : up_to end.0 ks ≡ (before ++ last_key.0) ++ end ∷ [] = turned.1 ∙ ap (λ l. before ++ l) (sym tells.keys ∙ last_key.2) ∙ sym (append_assoc before last_key.0 (end ∷ [])) in
+        let here : Rolled w (rows_of new.items) new.more (up_to end.0 ks) = subst (Rolled w (rows_of new.items) new.more) (sym turned.1) (rolled_as r) in
+        let fits : begins w.prefix end.0 ≡ true = ap (λ n. begins w.prefix n) (sym last_is) ∙ ap (λ p. begins p new.last) same ∙ last_both.1 in
+        let on = rolled_on w ks sorted fit (before ++ last_key.0) end fits at (subst (λ n. UpTo n (next n)) last_is last_upto) here in
+        subst (λ x. Rolled x (rows_of new.items) new.more (up_to (next_marker x.prefix x.delimiter new.last) ks)) (sym kept) (subst (λ n. Rolled w (rows_of new.items) new.more (up_to (next n) ks)) (sym last_is) on)
+
+    fewer_past : length (behind (jumped new).last ks) + 1000 ≤ length (behind old.last ks)
+    fewer_past =
+        let past : length (behind (next new.last) ks) ≤ length (behind new.last ks) = behind_fewer new.last (next new.last) last_upto ks in
+        let here : length (behind new.last ks) ≡ length (drop 1000 rest) = ap (λ t. length (behind t ks)) last_is ∙ ap length turned.0 in
+        let as_wanted : (jumped new).last ≡ next new.last = ap (λ x. next_marker x.prefix x.delimiter new.last) kept in
+        omega (arith, whole, length_page, past, here, ap (λ t. length (behind t ks)) as_wanted, sym (length-append (take 1000 rest) (drop 1000 rest)) ∙ ap length (take-append-drop 1000 rest), length-take 1000 rest)
+
+    first : (x : NameItem) × (more : List NameItem) × (page ≡ x ∷ more)
+    first = first_item page (omega (arith, whole))
+
+    first_at : take 1000 rest ≡ seen_of first.0 ∷ map seen_of first.1
+    first_at = sym tells.keys ∙ ap (map seen_of) first.2
+
+    shows_more : old.more ≡ false → new.more ≡ false → HasRolled old before → length old.items < length new.items
+    shows_more room room' r =
+        let k = seen_of first.0 in
+        let names = ap (map name_in) first.2 in
+        let ascends = subst (Ascends old.last) names of_page.ascends in
+        let named = and_parts (is_listed_name_with_prefix prefix first.0.name) (list_all (is_listed_name_with_prefix prefix) (map name_in first.1)) (ap (list_all (is_listed_name_with_prefix prefix)) (sym names) ∙ of_page.named) in
+        let both = and_parts (is_key first.0.name) (begins prefix first.0.name) named.0 in
+        let later : is_lt (name_cmp (next stands.name) first.0.name) ≡ true = ap (λ m. is_lt (name_cmp m first.0.name)) (sym stands.last) ∙ ap is_lt ascends.0 in
+        let another = shows_another w ks sorted fit of_d stands.name stands.is_text k both.0 (ap (λ p. begins p first.0.name) same ∙ both.1) later stands.from in
+        let more = shown_more w before k (map seen_of first.1) r room (subst (λ l. Rolled w (rows_of new.items) new.more (before ++ l)) first_at (rolled_as r)) room'
+        (subst (Rises w.prefix before) (ap (map seen_of) first.2) rises) another.0
+        (ap (λ m. ends (row_of w.prefix w.delimiter k).0 (all_rows w (up_to m ks))) stands.last ∙ another.1) in
+        omega (arith, more, length-map old.items row_view, length-map new.items row_view)
+
+    pub taken_whole : old.more ≡ false → new.more ≡ false → GoesOnWith ks old (jumped new)
+    taken_whole room room' = record { rolled = rolled_past; fewer = fewer_past; shows = shows_more room room' }
 
 -- whether it is full
 pub not_false : (b : Bool) → not b ≡ false → b ≡ true
 not_false true h = refl
 not_false false h = cc
+
+-- the listing stands behind the last name of a page
+pub stands_next : {prefix : List ℕ} {old new : Rolls} {names : List (List ℕ)} → is_listing_text old.wanted.delimiter ≡ true → StandsBehind old → IsPageOf prefix old.last names → 1000 ≤ length names → new.wanted ≡ old.wanted → new.last ≡ last_of old.last names
+    → StandsBehind (jumped new)
+stands_next {prefix = prefix} {old = old} {new = new} {names = names} of_d stands of_page whole kept last =
+    let named = subst (λ n. is_listed_name_with_prefix prefix n ≡ true) (sym last) (last_is_key prefix old.last names (omega (arith, whole)) of_page.named) in
+    record {
+      name = new.last;
+      is_text = key_is_text new.last (and_parts (is_key new.last) (begins prefix new.last) named).0;
+      from = subst (λ w. UpTo w.marker new.last) (sym kept)
+          (subst (UpTo old.wanted.marker) (sym last) (upto_trans old.wanted.marker old.last (last_of old.last names) (stands_upto old of_d stands) (last_is_later old.last names of_page.ascends)));
+      last = refl;
+    }
+
+pub stands_is_marker : (rolls : Rolls) → is_listing_text rolls.wanted.delimiter ≡ true → StandsBehind rolls → IsMarker rolls.last
+stands_is_marker rolls of_d stands = subst IsMarker (sym stands.last) (next_is_marker rolls.wanted.prefix rolls.wanted.delimiter of_d stands.name (listing_is_marker stands.name stands.is_text))

@@ -1,6 +1,6 @@
 -- What the calls of one operation may amount to. It stands between two numbers of calls, over an account that is
 -- consistent at the first. Source: this profile.
-use Rattle.std.specs.Prelude.{◌≡◌, ◌<◌, ◌≤◌, ◌⊎◌, ℕ, suc, ◌+◌, ◌*◌, ◌/◌, ◌%◌, ◌^◌, nat_lt, Bool, true, false, cond, List, [], ◌∷◌, ◌++◌, length, map, take, is_some, Option, None, Some}
+use Rattle.std.specs.Prelude.{◌≡◌, ◌<◌, ◌≤◌, ◌⊎◌, ℕ, suc, ◌+◌, ◌*◌, ◌/◌, ◌%◌, ◌^◌, min, nat_lt, Bool, true, false, cond, List, [], ◌∷◌, ◌++◌, length, map, take, is_some, Option, None, Some}
 use Rattle.std.specs.FinMap.{entries, get, len}
 use Rattle.std.specs.List.{filter}
 use Rattle.std.specs.Option.{unwrap_or}
@@ -37,7 +37,8 @@ use Rattle.s3_machine.specs.declared.operation.Reply.{Reply}
 use Rattle.s3_machine.specs.declared.operation.Reply.TheVariants.{Refused, Memory, Gone, Completed}
 use Rattle.s3_machine.specs.Items.{begins}
 use Rattle.s3_machine.specs.State.{Object, Bucket, Upload, State}
-use Rattle.s3_machine.specs.Step.{S3Step, head_of}
+use Rattle.s3_machine.specs.Step.{S3Step, head_of, listing}
+use Rattle.s3_machine.specs.declared.items.Asked.{Asked}
 use Rattle.s3_machine.specs.Reading.{judged}
 use Rattle.s3_machine.specs.declared.reading.Conditions.{Conditions}
 use Rattle.s3_machine.specs.declared.reading.Judged.{Judged}
@@ -51,6 +52,7 @@ use Rattle.upload_records.specs.Layout.{uploads_name, segments_name}
 use Rattle.upload_records.specs.Native.{object_at, s3_state, seal_of, sub_manifests, sub_manifests_of}
 use Rattle.upload_records.specs.Consistent.{IsConsistent}
 use Rattle.account_calls.specs.Calls.{Bound, always, by_account}
+use Rattle.account_calls.specs.Keys.{objects_in}
 use Rattle.account_calls.specs.Stutters.{OldBefore, calm, LastFailed}
 
 -- ---- which plans it has
@@ -304,6 +306,15 @@ NeverUnavailable = (settings : Settings) (h : History) (p q : ℕ) (op : Op) (la
 abbrev pub pages : ℕ → ℕ
 pages names = names / 1000 + 1
 
+-- how many items and common prefixes a listing of a bucket shows
+abbrev pub items_shown : List ℕ → Asked → State → ℕ
+items_shown bucket asked state = length (listing asked (objects_in (get state bucket))).0
+
+-- the pages of names that a listing asks for: all that the bucket has, or one more than it shows items, since each but the last
+-- shows another item
+abbrev pub pages_listed : List ℕ → Asked → SwiftAccount → ℕ
+pages_listed bucket asked tree = min (pages (len (files tree bucket))) (items_shown bucket asked (s3_state tree) + 1)
+
 -- how many records, and how many segments, stand beside a bucket
 abbrev pub records_of : SwiftAccount → List ℕ → ℕ
 records_of tree bucket = len (files tree (uploads_name bucket))
@@ -357,7 +368,7 @@ most_calls (HeadBucket bucket) tree = always 1
 most_calls (GetLocation bucket) tree = always 1
 most_calls (GetBucketAcl bucket) tree = always 1
 most_calls (PutBucketAcl bucket acl) tree = always 1
-most_calls (ListObjects bucket asked) tree = by_account (1 + pages (len (files tree bucket)))
+most_calls (ListObjects bucket asked) tree = by_account (1 + pages_listed bucket asked tree)
 most_calls (PutObject bucket key acl content_type meta body) tree = always 2
 most_calls (GetObject bucket key range conditions) tree = by_account (2 + pieces (read_length (object_at (get (s3_state tree) bucket) key) range conditions))
 most_calls (HeadObject bucket key range conditions) tree = always 2

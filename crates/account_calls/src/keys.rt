@@ -1,18 +1,17 @@
 //! The listing of a bucket's objects: the names of its container page by page, rolled up as they come.
 ghost use Rattle.std.specs.Prelude.{◌≡◌, ◌<◌, ◌+◌, true, false, map, IfOk, Ok};
 ghost use Rattle.std.specs.List.{All};
-ghost use Rattle.std.specs.FinMap.{len};
 ghost use Rattle.s3_names.specs.Bucket.{is_bucket};
 ghost use Rattle.s3_machine.specs.Shown.{IsShownItem};
+ghost use Rattle.s3_machine.specs.Limits.{is_listing_text};
 ghost use Rattle.s3_machine.specs.Step.{IsProperAsked};
-ghost use Rattle.swift_calls.specs.Account.{files};
 ghost use Rattle.swift_calls.specs.History.{budget, present};
 ghost use Rattle.swift_calls.specs.Limits.{IsMarker};
 ghost use Rattle.upload_records.specs.Native.{IsSettled};
 ghost use Rattle.list_pages.specs.Listing.{name_in, IsPageOf};
-ghost use Rattle.account_calls.specs.Answers.{pages};
+ghost use Rattle.account_calls.specs.Answers.{pages_listed};
 ghost use Rattle.account_calls.specs.Calls.{always, by_account, Asks, Tells};
-ghost use Rattle.account_calls.specs.Keys.{TellsKeys, TellsListing, TellsTaken};
+ghost use Rattle.account_calls.specs.Keys.{StandsBehind, TellsKeys, TellsListing, TellsTaken};
 ghost use Rattle.account_calls.specs.Lent.{Stays};
 ghost use Rattle.account_calls.specs.Listing.{TellsOf};
 
@@ -53,7 +52,7 @@ fn page<W: Swift>(
 }
 
 /// Takes the next page of keys, of a listing that wants items and is not full yet. What is told is whether another is
-/// wanted.
+/// wanted. It is asked for behind the last key, or behind all keys of the common prefix that this one rolls up into.
 fn take_page<W: Swift>(
     alloc: Global,
     state: &mut Settled<'_, W>,
@@ -64,7 +63,8 @@ fn take_page<W: Swift>(
     requires name { is_bucket bucket.now ≡ true }
     requires prefix { IsMarker prefix.now }
     requires same { roll.old.wanted.prefix ≡ prefix.now }
-    requires marker { IsMarker roll.old.last }
+    requires delimiter { is_listing_text roll.old.wanted.delimiter ≡ true }
+    requires stands { StandsBehind roll.old }
     requires wants { 0 < roll.old.wanted.max }
     requires room { roll.old.more ≡ false }
     ensures stays { Stays state.old state.new }
@@ -72,7 +72,7 @@ fn take_page<W: Swift>(
         × ((W.history state.new.store.now).called ≡ (W.history state.old.store.now).called + 1)) }
     ensures wanted { roll.new.wanted ≡ roll.old.wanted }
     ensures room { result ≡ Ok true → roll.new.more ≡ false }
-    ensures is_marker { result ≡ Ok true → IsMarker roll.new.last }
+    ensures stands { result ≡ Ok true → StandsBehind roll.new }
     ensures asks { Asks (always 1) (W.history state.old.store.now) (W.history state.new.store.now)
         IsSettled (TellsOf (TellsTaken bucket.now prefix.now roll.old roll.new)) result }
 {
@@ -80,12 +80,17 @@ fn take_page<W: Swift>(
     if !roll.push_page(page.as_slice())? {
         return Ok(false);
     }
-    Ok(page.len() == MOST_NAMES as usize)
+    if page.len() < MOST_NAMES as usize {
+        return Ok(false);
+    }
+    roll.jump()?;
+    Ok(true)
 }
 
 /// The items of a listing of a bucket's objects, and whether it is truncated (Amazon S3 API Reference, "ListObjects"): the
-/// keys of the bucket page by page, until the answer is full or a page is short; where no item is wanted, no page. At
-/// most as many calls as there are pages of the bucket's objects, where the store is observable and its account
+/// keys of the bucket page by page, until the answer is full or a page is short; where no item is wanted, no page. Of the
+/// keys of a common prefix only those on the page are read on which it is first met. At most as many calls as there are
+/// pages of the bucket's objects, and at most one more than items are shown, where the store is observable and its account
 /// consistent; and the S3 state stays. One page is held at a time. Failed comes only where the store's count of faults
 /// rose; Memory where memory ran out; Inconsistent never over an observable consistent account.
 #[tactic(auto, using(crate::proofs::AskedMarkers::prefix_is_marker))]
@@ -100,7 +105,7 @@ pub fn list_objects<W: Swift>(
     ensures stays { Stays state.old state.new }
     ensures dated { IfOk result (λ told. All IsShownItem told.0) }
     ensures asks { Asks
-        (by_account (pages (len (files (present (W.history state.old.store.now)) bucket.now))))
+        (by_account (pages_listed bucket.now asked.now (present (W.history state.old.store.now))))
         (W.history state.old.store.now) (W.history state.new.store.now) IsSettled
         (Tells (TellsListing bucket.now asked.now)) result }
 {

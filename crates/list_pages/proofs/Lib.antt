@@ -2,6 +2,7 @@ pub mod Asking
 pub mod Dated
 pub mod Ends
 pub mod Follows
+pub mod Marked
 pub mod Paging
 pub mod Taking
 pub mod lemmas

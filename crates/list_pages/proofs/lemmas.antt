@@ -1,9 +1,12 @@
 pub mod Fronts
+pub mod Greatest
+pub mod Jumps
 pub mod Pages
 pub mod PickedEntries
 pub mod Pushing
 pub mod Rising
 pub mod Rolling
+pub mod Skipping
 pub mod Sorted
 pub mod Starting
 pub mod Texts

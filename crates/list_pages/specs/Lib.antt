@@ -1,4 +1,5 @@
 pub mod Fault
+pub mod Jumps
 pub mod Listing
 pub mod Rolling
 pub mod Rolls

@@ -3,10 +3,12 @@
 #![tactic(auto)]
 
 mod fault;
+mod laws;
 mod page;
 mod roll;
 mod text;
 
 pub use fault::{PageFault, RollFault};
+pub use laws::law_jumps_exactly;
 pub use page::{MOST_NAMES, names};
 pub use roll::Roll;

@@ -8,13 +8,14 @@ ghost use Rattle.list_pages.specs.Rolls.{wanted};
 ghost use Rattle.s3_machine.specs.Shown.{IsShownItem, IsShownItemHead};
 ghost use Rattle.s3_machine.specs.declared.items.ItemHead.{ItemHead};
 ghost use Rattle.swift_marks.specs.Tag.{read_stamp};
+ghost use Rattle.list_pages.specs.Jumps.{jumped, next_marker};
 ghost use Rattle.list_pages.specs.Listing.{is_listed_name_with_prefix, last_of, name_in};
 ghost use Rattle.list_pages.specs.Rolling.{Before, Rises, Rolled, ends};
 ghost use Rattle.list_pages.specs.Rolls.{head_in, row_view, rows_of, seen_of, under_of, HasUntagged, IsUntagged};
 ghost use Rattle.list_pages.specs.declared.fault.RollFault.TheVariants as fault;
 
 use crate::RollFault;
-use crate::text::roll_text_end;
+use crate::text::{roll_next_marker, roll_text_end};
 use gate_base::{Bytes, Copying, List, Memory};
 use s3_machine::{Asked, Item, ItemHead};
 use std::alloc::Global;
@@ -24,7 +25,8 @@ use swift_marks::Stamp;
 
 /// The items of a listing as its names come, one after the other in the order of their bytes: a name in which the
 /// delimiter occurs after the prefix becomes the text up to the end of its first occurrence, and names of one text are
-/// one item (Amazon S3 API Reference, "ListObjects"). Of the names only the last is kept.
+/// one item (Amazon S3 API Reference, "ListObjects"). Of the names only the last is kept, and of those behind it the listing
+/// may leave out all that roll up into the same text.
 #[derive(Drop)]
 pub struct Roll {
     alloc: Global,
@@ -99,16 +101,23 @@ fn read_roll_item_head(alloc: Global, item: &NameItem) -> Result<ItemHead, RollF
 }
 
 impl Roll {
-    /// Before the first name.
+    /// Before the first name. Where the text after which the listing begins stands inside a common prefix, it goes on behind
+    /// all keys of that prefix.
     pub fn new(alloc: Global, asked: &Asked) -> Result<Roll, Memory>
         ensures { IfOk result (λ roll. roll ≡ record {
           wanted = wanted asked.now;
           items = [];
           more = false;
-          last = (wanted asked.now).marker;
+          last = next_marker asked.now.prefix asked.now.delimiter (wanted asked.now).marker;
         }) }
     {
         let marker = roll_marker(asked);
+        let last = roll_next_marker(
+            alloc,
+            asked.prefix.as_slice(),
+            asked.delimiter.as_slice(),
+            marker.as_slice(),
+        )?;
         Ok(Roll {
             alloc,
             prefix: asked.prefix.copy()?,
@@ -117,7 +126,7 @@ impl Roll {
             max: asked.max,
             items: List::new(alloc),
             more: false,
-            last: marker.copy()?,
+            last,
         })
     }
 
@@ -176,6 +185,23 @@ impl Roll {
         Ok(true)
     }
 
+    /// Goes on behind all keys of the common prefix that the last name rolls up into, so that none of them is read. No key
+    /// but theirs is left out, and they show nothing more. Where the name doesn't roll up, and after a fault, all is as
+    /// before.
+    pub fn jump(&mut self) -> Result<(), Memory>
+        ensures jumped { OnOk result (self.new ≡ jumped self.old) }
+        ensures err { OnErr result (self.new ≡ self.old) }
+    {
+        let marker = roll_next_marker(
+            self.alloc,
+            self.prefix.as_slice(),
+            self.delimiter.as_slice(),
+            self.next_marker(),
+        )?;
+        self.last = marker;
+        Ok(())
+    }
+
     /// Takes the next name, where none is left over yet.
     fn take(&mut self, item: &NameItem) -> Result<(), RollFault>
         requires prefix { begins self.old.wanted.prefix item.now.name ≡ true }
@@ -227,8 +253,8 @@ impl Roll {
         text == items[items.len() - 1].text.as_slice()
     }
 
-    /// The name after which the next page of names is wanted: the last one that was taken, and before the first the
-    /// text after which the listing begins.
+    /// The text after which the next page of names is wanted: the last name that was taken, or where [`Roll::jump`] went on
+    /// behind it, and before the first name where the listing begins.
     pub fn next_marker(&self) -> &[u8]
         ensures { result.now ≡ self.now.last }
     {

@@ -119,6 +119,17 @@ module _ {X : Type 0} where
       ends_cons m t e (g ∷ rest) true h = h
       ends_cons m t e (g ∷ rest) false h = h
 
+  ends_push : (t : List ℕ) (v : Option X) (es : List (List ℕ × Option X)) → ends t (es ++ (t, v) ∷ []) ≡ true
+  ends_push t v [] = (eq_by_cmp_equiv nat_list_cmp_total).refl t
+  ends_push t v (e ∷ []) = ends_push t v []
+  ends_push t v (e ∷ f ∷ es) = ends_push t v (f ∷ es)
+
+  -- the last row has one text
+  pub same_ends : (t u : List ℕ) (es : List (List ℕ × Option X)) → ends t es ≡ true → ends u es ≡ true → t ≡ u
+  same_ends t u [] h k = let none : false ≡ true = h in cc none
+  same_ends t u (e ∷ []) h k = antisymmetric t e.0 ((Equal-is (name_cmp t e.0)).0 h) ∙ sym (antisymmetric u e.0 ((Equal-is (name_cmp u e.0)).0 k))
+  same_ends t u (e ∷ f ∷ es) h k = same_ends t u (f ∷ es) h k
+
   module _ (m t : List ℕ) (v : Option X) (es : List (List ℕ × Option X)) (up : AllUpTo t (entries (from_entries {R = name_cmp} es))) where
     below_new : ends t (entries (from_entries {R = name_cmp} es)) ≡ false → Before t (entries (from_entries {R = name_cmp} es))
     below_new other = below_ends t (entries (from_entries {R = name_cmp} es)) (entries_sorted (from_entries {R = name_cmp} es)) up other
@@ -137,11 +148,22 @@ module _ {X : Type 0} where
       | inr h ↦ let k : true ≡ false = sym again ∙ no_end t (behind m (entries (from_entries {R = name_cmp} es))) (before_behind m t (entries (from_entries {R = name_cmp} es)) (below_new h)) in cc k
     ]
 
+    -- another row than the last of all, behind the marker
+    pub push_beyond : is_lt (name_cmp m t) ≡ true → ends t (entries (from_entries {R = name_cmp} es)) ≡ false → behind m (entries (from_entries {R = name_cmp} (es ++ (t, v) ∷ []))) ≡ behind m (entries (from_entries {R = name_cmp} es)) ++ (t, v) ∷ []
+    push_beyond shown other = ap (behind m) (push_new es t v (below_new other)) ∙ behind_push m (entries (from_entries {R = name_cmp} es)) (t, v) ∙ ap (λ b. behind m (entries (from_entries {R = name_cmp} es)) ++ cond b ((t, v) ∷ []) []) shown
+
     -- another row behind the marker
     pub push_other : is_lt (name_cmp m t) ≡ true → ends t (behind m (entries (from_entries {R = name_cmp} es))) ≡ false → behind m (entries (from_entries {R = name_cmp} (es ++ (t, v) ∷ []))) ≡ behind m (entries (from_entries {R = name_cmp} es)) ++ (t, v) ∷ []
     push_other shown other = elim (tells (ends t (entries (from_entries {R = name_cmp} es)))) [
       | inl h ↦ let k : true ≡ false = sym (ends_behind m t (entries (from_entries {R = name_cmp} es)) shown h) ∙ other in cc k
-      | inr h ↦ ap (behind m) (push_new es t v (below_new h)) ∙ behind_push m (entries (from_entries {R = name_cmp} es)) (t, v) ∙ ap (λ b. behind m (entries (from_entries {R = name_cmp} es)) ++ cond b ((t, v) ∷ []) []) shown
+      | inr h ↦ push_beyond shown h
+    ]
+
+    -- the new row is the last of all
+    pub push_ends : ends t (entries (from_entries {R = name_cmp} (es ++ (t, v) ∷ []))) ≡ true
+    push_ends = elim (tells (ends t (entries (from_entries {R = name_cmp} es)))) [
+      | inl h ↦ ap (λ f. ends t (entries f)) (push_same es t v h) ∙ h
+      | inr h ↦ ap (ends t) (push_new es t v (below_new h)) ∙ ends_push t v (entries (from_entries {R = name_cmp} es))
     ]
 
     -- all rows are still up to the new one

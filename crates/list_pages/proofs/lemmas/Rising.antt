@@ -45,7 +45,7 @@ then_below a b x y e = ap (λ o. ordering_then o (name_cmp x y)) e
 pub then_above : (a b : ℕ) (x y : List ℕ) → nat_cmp a b ≡ Greater → name_cmp (a ∷ x) (b ∷ y) ≡ Greater
 then_above a b x y e = ap (λ o. ordering_then o (name_cmp x y)) e
 
-no_gt : (o : Ordering) → o ≡ Greater → is_gt o ≡ false → ⊥
+pub no_gt : (o : Ordering) → o ≡ Greater → is_gt o ≡ false → ⊥
 no_gt o e h = let k : true ≡ false = ap is_gt (sym e) ∙ h in cc k
 
 no_lt : (o : Ordering) → o ≡ Greater → o ≡ Less → ⊥
@@ -68,7 +68,7 @@ upto_front (a ∷ d) (b ∷ w) v le h = elim (bytes_order a b) [
   | above l e ↦ absurd (no_gt (name_cmp (a ∷ d) (b ∷ (w ++ v))) (then_above a b d (w ++ v) e) h)
 ]
 
-eqb_same : (a b : ℕ) → a ≡ b → (a == b) ≡ true
+pub eqb_same : (a b : ℕ) → a ≡ b → (a == b) ≡ true
 eqb_same a b e = eq-eqb a b e
 
 -- what is up to a text and doesn't begin with its front is up to that front
@@ -141,11 +141,11 @@ short_long d (b ∷ r) = elim (tells (begins d (b ∷ r))) [
   ]
 ]
 
-upto_empty : (x : List ℕ) → UpTo [] x
+pub upto_empty : (x : List ℕ) → UpTo [] x
 upto_empty [] = refl
 upto_empty (b ∷ x) = refl
 
-upto_same : (x y : List ℕ) → x ≡ y → UpTo x y
+pub upto_same : (x y : List ℕ) → x ≡ y → UpTo x y
 upto_same x y e = subst (λ z. UpTo x z) (append-nil x ∙ e) (upto_longer x [])
 
 pub upto_trans : (x y z : List ℕ) → UpTo x y → UpTo y z → UpTo x z

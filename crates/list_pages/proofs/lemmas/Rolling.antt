@@ -11,9 +11,9 @@ use Rattle.s3_machine.specs.Items.{behind, row_of, row_by, roll_by, begins}
 use Rattle.list_pages.specs.Rolling.{first_rows, all_rows, Wanted}
 use Rattle.list_pages.specs.Rolling.{UpTo, AllUpTo, Before, Rolled, ends}
 use Rattle.list_pages.proofs.lemmas.Rising.{tells, short, rising, then_same, begins_cut}
-use Rattle.list_pages.proofs.lemmas.Pushing.{push_hidden, push_again, push_other, push_upto, upto_all}
+use Rattle.list_pages.proofs.lemmas.Pushing.{push_beyond, push_ends, push_hidden, push_again, push_other, push_same, push_upto, upto_all}
 
-drop_front : (p rest : List ℕ) → drop (length p) (p ++ rest) ≡ rest
+pub drop_front : (p rest : List ℕ) → drop (length p) (p ++ rest) ≡ rest
 drop_front [] rest = refl
 drop_front (b ∷ p) rest = drop_front p rest
 
@@ -30,7 +30,7 @@ row_text : {H : Type 0} (p rest : List ℕ) (h : H) (o : Option (List ℕ)) → 
 row_text p rest h None = refl
 row_text p rest h (Some t) = refl
 
-fronted_is : (d rest : List ℕ) → unwrap_or (roll_by d rest) rest ≡ fronted d rest
+pub fronted_is : (d rest : List ℕ) → unwrap_or (roll_by d rest) rest ≡ fronted d rest
 fronted_is [] rest = refl
 fronted_is (c ∷ d) rest = refl
 
@@ -105,6 +105,36 @@ module _ {H : Type 0} (w : Wanted) (shown : List (List ℕ × Option H)) (more :
         ]
       ]
 
+  -- a row that is the last of all again
+  pub roll_same : ends row.0 (all_rows w seen) ≡ true → all_rows w (seen ++ (w.prefix ++ rest, h) ∷ []) ≡ all_rows w seen
+  roll_same again = pushed ∙ ap entries (push_same (map (row_of w.prefix w.delimiter) seen) row.0 row.1 again)
+
+  -- the row is the last of all
+  pub roll_ends : ends row.0 (all_rows w (seen ++ (w.prefix ++ rest, h) ∷ [])) ≡ true
+  roll_ends = ap (ends row.0) pushed ∙ push_ends w.marker row.0 row.1 (map (row_of w.prefix w.delimiter) seen) (r.top rest h before)
+
+  -- there is a row more, where it isn't the last of all
+  pub roll_beyond : is_lt (name_cmp w.marker row.0) ≡ true → ends row.0 (all_rows w seen) ≡ false → length new_rows ≡ length old_rows + 1
+  roll_beyond shows other =
+      ap length (ap (behind w.marker) pushed ∙ push_beyond w.marker row.0 row.1 (map (row_of w.prefix w.delimiter) seen) (r.top rest h before) shows other) ∙ length-append old_rows (row ∷ [])
+
+  -- there are no fewer rows
+  pub roll_keeps : length old_rows ≤ length new_rows
+  roll_keeps = elim (tells (is_lt (name_cmp w.marker row.0))) [
+    | inr f ↦ let e = ap length (hidden_same f) in omega (arith, e)
+    | inl t ↦ elim (tells (ends row.0 (all_rows w seen))) [
+      | inl a ↦ let e = ap (λ l. length (behind w.marker l)) (roll_same a) in omega (arith, e)
+      | inr o ↦ let e = roll_beyond t o in omega (arith, e)
+    ]
+  ]
+
+  -- the first rows with it, whatever they are
+  pub roll_next : Rolled w (take w.max new_rows) (nat_lt w.max (length new_rows)) (seen ++ (w.prefix ++ rest, h) ∷ [])
+  roll_next = record { rows = refl; over = refl; top = top_goes }
+
+  pub roll_alike : ends row.0 (all_rows w seen) ≡ true → Rolled w shown more (seen ++ (w.prefix ++ rest, h) ∷ [])
+  roll_alike again = same_rolled (ap (behind w.marker) (roll_same again))
+
   pub roll_hidden : is_lt (name_cmp w.marker row.0) ≡ false → Rolled w shown more (seen ++ (w.prefix ++ rest, h) ∷ [])
   roll_hidden f = same_rolled (hidden_same f)
 
@@ -167,6 +197,49 @@ module _ {H : Type 0} (w : Wanted) (shown : List (List ℕ × Option H)) (more :
       (roll_full w shown more seen cut.0 h r before_cut_key open_
       (ap (λ k. is_lt (name_cmp w.marker (row_of w.prefix w.delimiter (k, h)).0)) (sym cut.1) ∙ ap (λ x. is_lt (name_cmp w.marker x.0)) e ∙ shows)
       (ap (λ k. ends (row_of w.prefix w.delimiter (k, h)).0 shown) (sym cut.1) ∙ ap (λ x. ends x.0 shown) e ∙ other) full)
+
+-- and what is said of all rows
+module _ {H : Type 0} (w : Wanted) {shown : List (List ℕ × Option H)} {more : Bool} {seen : List (List ℕ × H)} (r : Rolled w shown more seen) (k : List ℕ × H) (is : begins w.prefix k.0 ≡ true) (before : Before k.0 seen) where
+  abbrev own_row : List ℕ × Option H
+  own_row = row_of w.prefix w.delimiter k
+
+  abbrev cut_key : (v : List ℕ) × (k.0 ≡ w.prefix ++ v)
+  cut_key = begins_cut w.prefix k.0 is
+
+  before_key : Before (w.prefix ++ cut_key.0) seen
+  before_key = subst (λ n. Before n seen) cut_key.1 before
+
+  pub push_repeats : ends own_row.0 (all_rows w seen) ≡ true → all_rows w (seen ++ k ∷ []) ≡ all_rows w seen
+  push_repeats again =
+      subst (λ n. ends (row_of w.prefix w.delimiter (n, k.1)).0 (all_rows w seen) ≡ true → all_rows w (seen ++ (n, k.1) ∷ []) ≡ all_rows w seen) (sym cut_key.1)
+      (roll_same w shown more seen cut_key.0 k.1 r before_key) again
+
+  pub push_alike : ends own_row.0 (all_rows w seen) ≡ true → Rolled w shown more (seen ++ k ∷ [])
+  push_alike again =
+      subst (λ n. ends (row_of w.prefix w.delimiter (n, k.1)).0 (all_rows w seen) ≡ true → Rolled w shown more (seen ++ (n, k.1) ∷ [])) (sym cut_key.1)
+      (roll_alike w shown more seen cut_key.0 k.1 r before_key) again
+
+  pub push_is_last : ends own_row.0 (all_rows w (seen ++ k ∷ [])) ≡ true
+  push_is_last =
+      subst (λ n. ends (row_of w.prefix w.delimiter (n, k.1)).0 (all_rows w (seen ++ (n, k.1) ∷ [])) ≡ true) (sym cut_key.1)
+      (roll_ends w shown more seen cut_key.0 k.1 r before_key)
+
+  pub push_counts : is_lt (name_cmp w.marker own_row.0) ≡ true → ends own_row.0 (all_rows w seen) ≡ false
+      → length (behind w.marker (all_rows w (seen ++ k ∷ []))) ≡ length (behind w.marker (all_rows w seen)) + 1
+  push_counts shows other =
+      subst (λ n. is_lt (name_cmp w.marker (row_of w.prefix w.delimiter (n, k.1)).0) ≡ true → ends (row_of w.prefix w.delimiter (n, k.1)).0 (all_rows w seen) ≡ false
+      → length (behind w.marker (all_rows w (seen ++ (n, k.1) ∷ []))) ≡ length (behind w.marker (all_rows w seen)) + 1) (sym cut_key.1)
+      (roll_beyond w shown more seen cut_key.0 k.1 r before_key) shows other
+
+  pub push_keeps : length (behind w.marker (all_rows w seen)) ≤ length (behind w.marker (all_rows w (seen ++ k ∷ [])))
+  push_keeps =
+      subst (λ n. length (behind w.marker (all_rows w seen)) ≤ length (behind w.marker (all_rows w (seen ++ (n, k.1) ∷ [])))) (sym cut_key.1)
+      (roll_keeps w shown more seen cut_key.0 k.1 r before_key)
+
+  pub push_next : Rolled w (take w.max (behind w.marker (all_rows w (seen ++ k ∷ [])))) (nat_lt w.max (length (behind w.marker (all_rows w (seen ++ k ∷ []))))) (seen ++ k ∷ [])
+  push_next =
+      subst (λ n. Rolled w (take w.max (behind w.marker (all_rows w (seen ++ (n, k.1) ∷ [])))) (nat_lt w.max (length (behind w.marker (all_rows w (seen ++ (n, k.1) ∷ []))))) (seen ++ (n, k.1) ∷ [])) (sym cut_key.1)
+      (roll_next w shown more seen cut_key.0 k.1 r before_key)
 
 pub row_at : {H : Type 0} (p d p2 d2 : List ℕ) (k : List ℕ × H) (x : List ℕ × Option H) → p ≡ p2 → d ≡ d2 → row_of p d k ≡ x → row_of p2 d2 k ≡ x
 row_at p d p2 d2 k x ep ed h = subst (λ q. row_of q d2 k ≡ x) ep (subst (λ e. row_of p e k ≡ x) ed h)

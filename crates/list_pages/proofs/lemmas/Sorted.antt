@@ -61,7 +61,7 @@ module _ {H : Type 0} where
   rises_front prefix (suc n) a [] h = tt
   rises_front prefix (suc n) a (k ∷ b) h = (h.0, h.1, rises_front prefix n (a ++ k ∷ []) b h.2)
 
-  all_filter : (q p : List ℕ × H → Bool) (es : List (List ℕ × H)) → list_all q es ≡ true → list_all q (filter p es) ≡ true
+  pub all_filter : (q p : List ℕ × H → Bool) (es : List (List ℕ × H)) → list_all q es ≡ true → list_all q (filter p es) ≡ true
   all_filter q p [] h = refl
   all_filter q p (e ∷ es) h =
       let a = and_parts (q e) (list_all q es) h in

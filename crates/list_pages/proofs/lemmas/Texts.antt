@@ -45,10 +45,10 @@ alike : (f g : List ℕ → List ℕ) → ((t : List ℕ) → f t ≡ g t) → (
 alike f g h None = refl
 alike f g h (Some t) = ap (λ x. Some x) (h t)
 
-rolled_goes : (d : List ℕ) (b : ℕ) (r : List ℕ) → begins d (b ∷ r) ≡ false → rolled d (b ∷ r) ≡ option_map (λ t. b ∷ t) (rolled d r)
+pub rolled_goes : (d : List ℕ) (b : ℕ) (r : List ℕ) → begins d (b ∷ r) ≡ false → rolled d (b ∷ r) ≡ option_map (λ t. b ∷ t) (rolled d r)
 rolled_goes d b r h = ap (λ t. cond t (Some d) (option_map (λ t. b ∷ t) (rolled d r))) h
 
-rolled_here : (d : List ℕ) (b : ℕ) (r : List ℕ) → begins d (b ∷ r) ≡ true → rolled d (b ∷ r) ≡ Some d
+pub rolled_here : (d : List ℕ) (b : ℕ) (r : List ℕ) → begins d (b ∷ r) ≡ true → rolled d (b ∷ r) ≡ Some d
 rolled_here d b r h = ap (λ t. cond t (Some d) (option_map (λ t. b ∷ t) (rolled d r))) h
 
 -- the delimiter isn't at this place

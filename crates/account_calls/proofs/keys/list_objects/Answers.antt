@@ -1,7 +1,7 @@
 use Rattle.std.proofs.Common.{Ok, refl, ap, sym, subst, ◌∙◌}
-use Rattle.swift_calls.specs.Limits.{IsMarker}
+use Rattle.s3_machine.specs.Limits.{is_listing_text}
 use Rattle.list_pages.specs.Rolls.{Rolls}
-use Rattle.account_calls.proofs.AskedMarkers.{asked_is_marker}
+use Rattle.account_calls.proofs.AskedMarkers.{stands_first}
 use Rattle.account_calls.proofs.KeyWalk.{none_wanted, not_truncated, rolling_end, rolling_fault, rolling_more, rolling_none, some_wanted}
 use Rattle.account_calls.proofs.lemmas.One.{not_asked}
 use Rattle.account_calls.proofs.keys.list_objects.Goals as goal
@@ -19,17 +19,20 @@ pages-init g c = record {
   stays = record { store = refl; settings = refl };
   wants = ap (λ (r : Rolls). r.wanted) c.in_ok-roll.ensures;
   room = ap (λ (r : Rolls). r.more) c.in_ok-roll.ensures;
-  is_marker = subst IsMarker (sym (ap (λ (r : Rolls). r.last) c.in_ok-roll.ensures)) (asked_is_marker c.args.asked.now c.requires.asked);
+  stands = stands_first c.args.asked.now c.requires.asked c.in_ok-roll.roll c.in_ok-roll.ensures;
   some = some_wanted c.args.asked.now.max c.if-asked-eq0.false;
   walked = rolling_none (g.W.Swift.history c.args.state.now.store.now) c.args.bucket.now c.args.asked.now c.in_ok-roll.roll c.in_ok-roll.ensures;
 }
 
+pub take_page-requires-delimiter : goal.take_page-requires-delimiter
+take_page-requires-delimiter g c = ap (λ w. is_listing_text w.delimiter) c.pages.invariant.wants ∙ c.requires.asked.delimiter
+
 pub returns-in_err-take_page-clause-asks : goal.returns-in_err-take_page-clause-asks
-returns-in_err-take_page-clause-asks g c = rolling_fault c.pages.invariant.walked c.in_err-take_page.ensures.asks c.requires.name c.args.asked.now _ c.from_residual-in_err-take_page.ensures.1
+returns-in_err-take_page-clause-asks g c = rolling_fault c.pages.invariant.walked c.in_err-take_page.ensures.asks c.requires.name c.args.asked.now refl c.pages.invariant.wants _ c.from_residual-in_err-take_page.ensures.1
 
 pub returns-then-not-branch-clause-asks : goal.returns-then-not-branch-clause-asks
 returns-then-not-branch-clause-asks g c =
-    rolling_end c.pages.invariant.walked c.in_ok-take_page.ensures.asks c.if-not-branch.true c.requires.name c.args.asked.now refl (c.in_ok-take_page.ensures.wanted ∙ c.pages.invariant.wants) _
+    rolling_end c.pages.invariant.walked c.in_ok-take_page.ensures.asks c.if-not-branch.true c.requires.name c.args.asked.now refl (c.in_ok-take_page.ensures.wanted ∙ c.pages.invariant.wants) _ c.pages.invariant.wants
     c.finish-then-not-branch.ensures.listed
 
 pub pages-preserved : goal.pages-preserved
@@ -40,7 +43,7 @@ pages-preserved g c = record {
   };
   wants = c.in_ok-take_page.ensures.wanted ∙ c.pages.invariant.wants;
   room = c.in_ok-take_page.ensures.room (ap Ok c.if-not-branch.false);
-  is_marker = c.in_ok-take_page.ensures.is_marker (ap Ok c.if-not-branch.false);
+  stands = c.in_ok-take_page.ensures.stands (ap Ok c.if-not-branch.false);
   some = c.pages.invariant.some;
   walked = rolling_more c.pages.invariant.walked c.in_ok-take_page.ensures.asks c.if-not-branch.false;
 }
