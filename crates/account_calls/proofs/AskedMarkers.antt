@@ -1,5 +1,5 @@
 -- The texts of a listing may be markers.
-use Rattle.std.proofs.Common.{◌≡◌, ℕ, ◌==◌, Bool, true, false, if◌then◌else◌, List, [], Option, None, Some, IfSome, refl, sym, subst}
+use Rattle.std.proofs.Common.{◌≡◌, ℕ, ◌==◌, true, false, if◌then◌else◌, List, [], Option, None, Some, IfSome, refl, sym, subst}
 use Rattle.std.specs.Option.{unwrap_or}
 use Rattle.s3_machine.specs.Limits.{is_listing_text}
 use Rattle.s3_machine.specs.Step.{IsProperAsked}

@@ -1,5 +1,5 @@
 -- The keys of a bucket, rolled up page by page.
-use Rattle.std.proofs.Common.{◌≡◌, ℕ, zero, suc, ◌+◌, ◌*◌, ◌<◌, ◌≤◌, IsTrue, Bool, true, false, not, cond, ◌&&◌, nat_lt, T, List, [], ◌∷◌, map, length, take, Result, Ok, Err, refl, sym, ap, subst, ◌∙◌, arith}
+use Rattle.std.proofs.Common.{◌≡◌, ℕ, zero, suc, ◌+◌, ◌*◌, ◌<◌, ◌≤◌, IsTrue, Bool, true, false, cond, ◌&&◌, nat_lt, T, List, [], ◌∷◌, map, length, take, Result, Ok, Err, refl, sym, ap, subst, ◌∙◌, arith}
 use Rattle.std.specs.Result.{IsErrAnd}
 use Rattle.std.specs.List.{filter, list_all}
 use Rattle.std.specs.Ordering.{is_lt}

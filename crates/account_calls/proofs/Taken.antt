@@ -261,6 +261,10 @@ pub not_false : (b : Bool) → not b ≡ false → b ≡ true
 not_false true h = refl
 not_false false h = cc
 
+pub not_true : (b : Bool) → not b ≡ true → b ≡ false
+not_true true h = cc
+not_true false h = refl
+
 -- the listing stands behind the last name of a page
 pub stands_next : {prefix : List ℕ} {old new : Rolls} {names : List (List ℕ)} → is_listing_text old.wanted.delimiter ≡ true → StandsBehind old → IsPageOf prefix old.last names → 1000 ≤ length names → new.wanted ≡ old.wanted → new.last ≡ last_of old.last names
     → StandsBehind (jumped new)

@@ -1,6 +1,6 @@
 -- The step of ListObjects, from what its calls told, and how many they are.
 use Rattle.std.specs.Prelude.{◌≡◌, ◌+◌, ℕ, Bool, true, false, List, [], ◌∷◌, map, Option, Some, None, Result, Ok}
-use Rattle.std.specs.FinMap.{entries, get, len}
+use Rattle.std.specs.FinMap.{entries, get}
 use Rattle.std.specs.List.{All}
 use Rattle.std.proofs.Common.{refl, sym, ap, subst, ◌∙◌, arith}
 use Rattle.s3_names.specs.declared.acl.Acl.{Acl}
@@ -19,7 +19,7 @@ use Rattle.s3_machine.specs.declared.operation.Reply.{Reply}
 use Rattle.s3_machine.specs.declared.operation.Reply.TheVariants as reply
 use Rattle.s3_machine.specs.declared.operation.Settings.{Settings}
 use Rattle.s3_machine.proofs.lemmas.StepLemmas.{list_without_bucket, list_denied, step_items}
-use Rattle.swift_calls.specs.Account.{SwiftAccount, files}
+use Rattle.swift_calls.specs.Account.{SwiftAccount}
 use Rattle.swift_calls.specs.History.{History, present}
 use Rattle.upload_records.specs.Native.{IsSettled, s3_state}
 use Rattle.list_pages.specs.Rolling.{first_rows}
@@ -68,8 +68,8 @@ items_are_own bucket asked told dated = record { showable = dated; no_memory = �
 
 -- a call told of the state, and the rest is counted by what the account has after it, which is what it had before
 pub counted_on : {T : Type 0} {P : State → T → Type 0} {given rest : SwiftAccount → Type 0} {a b c : History} {settings now : Settings} {op : Op} {label : Label} {after : Known} {end : Result Reply PlanFault} {value : T}
-    → (pages : ℕ → ℕ) (bucket : List ℕ) (told : T) → value ≡ told → now ≡ settings → Asks (always 1) a b IsSettled (Tells P) (Ok value)
-    → Plans (by_account (pages (len (files (present b) bucket)))) b c now (GivenOf rest) op label after end → ((tree : SwiftAccount) → given tree → P (s3_state tree) told → rest tree)
-    → Plans (by_account (1 + pages (len (files (present a) bucket)))) a c settings (GivenOf given) op label after end
-counted_on {given = given} {rest = rest} pages bucket told is same asks plans gives =
-    goes_on_from met_settled same asks plans (after_told given rest told is gives) (λ x. let same = ap (λ tree. pages (len (files tree bucket))) x.1.same in omega (arith, same))
+    → (pages : SwiftAccount → ℕ) (told : T) → value ≡ told → now ≡ settings → Asks (always 1) a b IsSettled (Tells P) (Ok value)
+    → Plans (by_account (pages (present b))) b c now (GivenOf rest) op label after end → ((tree : SwiftAccount) → given tree → P (s3_state tree) told → rest tree)
+    → Plans (by_account (1 + pages (present a))) a c settings (GivenOf given) op label after end
+counted_on {given = given} {rest = rest} pages told is same asks plans gives =
+    goes_on_from met_settled same asks plans (after_told given rest told is gives) (λ x. let same = ap pages x.1.same in omega (arith, same))

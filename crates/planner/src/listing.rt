@@ -1,12 +1,10 @@
 //! The plan of ListObjects.
 ghost use Rattle.std.specs.Prelude.{◌≡◌, ◌+◌, true, Some};
-ghost use Rattle.std.specs.FinMap.{len};
 ghost use Rattle.s3_names.specs.Bucket.{is_bucket};
 ghost use Rattle.s3_machine.specs.Step.{IsProperAsked};
 ghost use Rattle.s3_machine.specs.declared.operation.Op.TheVariants.{ListObjects};
-ghost use Rattle.swift_calls.specs.Account.{files};
 ghost use Rattle.swift_calls.specs.History.{present};
-ghost use Rattle.account_calls.specs.Answers.{pages};
+ghost use Rattle.account_calls.specs.Answers.{pages_listed};
 ghost use Rattle.account_calls.specs.Calls.{by_account, Any, Given, TellsBucket};
 ghost use Rattle.account_calls.specs.Lent.{Stays};
 ghost use Rattle.account_calls.specs.declared.state.Known.TheVariants as known;
@@ -22,7 +20,8 @@ use swift_calls::Swift;
 
 /// ListObjects: HEAD of the bucket's container, then its keys page by page, until the answer is full or a page is short;
 /// where no item is wanted, no page. None of the calls commits. Over an observable consistent account at most one call
-/// more than there are pages of the bucket's objects. The faults are those of the calls.
+/// more than there are pages of the bucket's objects, and at most two more than items are shown. The faults are those of
+/// the calls.
 pub(crate) fn list_objects<W: Swift>(
     alloc: Global,
     state: &mut Settled<'_, W>,
@@ -34,7 +33,7 @@ pub(crate) fn list_objects<W: Swift>(
     requires asked { IsProperAsked asked }
     ensures stays { Stays state.old state.new }
     ensures plans { Plans
-        (by_account (1 + pages (len (files (present (W.history state.old.store.now)) bucket))))
+        (by_account (1 + pages_listed bucket asked (present (W.history state.old.store.now))))
         (W.history state.old.store.now) (W.history state.new.store.now) state.old.settings.now
         (Given Any) (ListObjects bucket asked) label.now known.Settled result }
 {
@@ -57,7 +56,7 @@ fn plan_list_objects_within<W: Swift>(
     requires asked { IsProperAsked asked }
     ensures stays { Stays state.old state.new }
     ensures plans { Plans
-        (by_account (pages (len (files (present (W.history state.old.store.now)) bucket))))
+        (by_account (pages_listed bucket asked (present (W.history state.old.store.now))))
         (W.history state.old.store.now) (W.history state.new.store.now) state.old.settings.now
         (Given (λ s. TellsBucket bucket s (Some list))) (ListObjects bucket asked) label.now
         known.Settled result }

@@ -1,4 +1,4 @@
-use Rattle.std.proofs.Common.{Ok, refl, ap, sym, subst, ◌∙◌}
+use Rattle.std.proofs.Common.{Ok, refl, ap, ◌∙◌}
 use Rattle.s3_machine.specs.Limits.{is_listing_text}
 use Rattle.list_pages.specs.Rolls.{Rolls}
 use Rattle.account_calls.proofs.AskedMarkers.{stands_first}
@@ -24,8 +24,8 @@ pages-init g c = record {
   walked = rolling_none (g.W.Swift.history c.args.state.now.store.now) c.args.bucket.now c.args.asked.now c.in_ok-roll.roll c.in_ok-roll.ensures;
 }
 
-pub take_page-requires-delimiter : goal.take_page-requires-delimiter
-take_page-requires-delimiter g c = ap (λ w. is_listing_text w.delimiter) c.pages.invariant.wants ∙ c.requires.asked.delimiter
+pub take_page-requires-clause-delimiter : goal.take_page-requires-clause-delimiter
+take_page-requires-clause-delimiter g c = ap (λ w. is_listing_text w.delimiter) c.pages.invariant.wants ∙ c.requires.asked.delimiter
 
 pub returns-in_err-take_page-clause-asks : goal.returns-in_err-take_page-clause-asks
 returns-in_err-take_page-clause-asks g c = rolling_fault c.pages.invariant.walked c.in_err-take_page.ensures.asks c.requires.name c.args.asked.now refl c.pages.invariant.wants _ c.from_residual-in_err-take_page.ensures.1
