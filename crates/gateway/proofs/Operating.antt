@@ -1,11 +1,12 @@
 -- An operation: its store is settled where that is not known to be needless, and then it is answered.
-use Rattle.std.specs.Prelude.{◌≡◌, ◌≤◌, ◌⊎◌, ℕ, ◌+◌, IsTrue, [], Some, Result, Ok, Err}
-use Rattle.std.proofs.Common.{refl, sym, subst, inl, inr, arith}
+use Rattle.std.specs.Prelude.{◌≡◌, ◌≤◌, ◌⊎◌, ℕ, ◌+◌, true, false, IsTrue, [], Some, Result, Ok, Err}
+use Rattle.std.proofs.Common.{refl, sym, ap, subst, ◌∙◌, inl, inr, arith}
 use Rattle.gate_base.specs.Causes.{Rose}
 use Rattle.s3_machine.specs.declared.code.Code.TheVariants.{ServiceUnavailable}
 use Rattle.s3_machine.specs.declared.operation.Label.{Label}
 use Rattle.s3_machine.specs.declared.operation.Settings.{Settings}
 use Rattle.s3_machine.specs.declared.operation.Op.{Op}
+use Rattle.s3_machine.specs.declared.operation.Op.TheVariants.{GetObject}
 use Rattle.s3_machine.specs.declared.operation.Reply.{Reply}
 use Rattle.s3_machine.specs.declared.operation.Reply.TheVariants as answer
 use Rattle.s3_machine.specs.Shown.{IsShowable}
@@ -14,7 +15,7 @@ use Rattle.swift_calls.specs.History.{History, present}
 use Rattle.upload_records.specs.Native.{IsSettled}
 use Rattle.account_calls.specs.declared.state.Known.{Known}
 use Rattle.account_calls.specs.declared.state.Known.TheVariants as known
-use Rattle.account_calls.specs.Answers.{most_calls, most_settling}
+use Rattle.account_calls.specs.Answers.{is_upload, is_many, most_calls, most_settling}
 use Rattle.account_calls.specs.Calls.{Bound, always, by_account, amount, IsWithin, GoesOn, Met, Keeps, Any}
 use Rattle.account_calls.specs.Fault.{CausesFault}
 use Rattle.account_calls.specs.Stutters.{Stutters, LastFailed}
@@ -24,11 +25,13 @@ use Rattle.account_calls.specs.Plan.{reply_of, Answered}
 use Rattle.recovery.specs.declared.state.SettleFault.{SettleFault}
 use Rattle.recovery.specs.declared.state.SettleFault.TheVariants.{Failed, Memory, Inconsistent}
 use Rattle.recovery.specs.Settling.{settle_fault, as_plan, SettlesIt, Settles}
-use Rattle.gateway.specs.Exchange.{SettledBy, IsFault, unsettled, answered, Operated}
+use Rattle.s3_requests.specs.declared.meant.Meant.{Meant}
+use Rattle.s3_requests.specs.declared.meant.Meant.TheVariants as meant
+use Rattle.gateway.specs.Exchange.{AsksBytes, SettledBy, IsFault, unsettled, answered, Operated}
 use Rattle.account_calls.proofs.lemmas.Told.{told_as}
 use Rattle.planner.specs.declared.reading.Reading.{Reading}
 use Rattle.planner.specs.declared.reading.Reading.TheVariants.{Whole, Pieces}
-use Rattle.planner.specs.Reading.{AnsweredOrFound, Finds}
+use Rattle.planner.specs.Reading.{AnsweredOrFound, Finds, LeavesBytes, ReadsBytes}
 use Rattle.planner.specs.declared.reading.Found.{Found}
 use Rattle.gateway.specs.Reading.{Readied, Reads, PerformsOrFinds, OperatedOrReads, IsReady}
 use Rattle.gateway.proofs.lemmas.Map.{settled_by_agree}
@@ -52,6 +55,7 @@ rose_later before then now near rose = omega arith
 at_once : (h : History) → Readied h h known.Settled
 at_once h = record {
   on = goes_none h;
+  still = refl;
   by = λ met. record {
     needs_none = λ is. refl;
     quiet = none_made refl met.sound;
@@ -78,6 +82,7 @@ settles_within {old = old} {middle = middle} settles met =
 by_settling : {old middle : History} → Settles old middle (Ok tt) → Readied old middle known.Unsure
 by_settling {old = old} {middle = middle} settles = record {
   on = settles.asks.grows.on;
+  still = settles.asks.cause;
   by = λ met.
       let told = settles.asks.effect (met_any met) in
       record {
@@ -206,3 +211,19 @@ ready_of settings op label old new was now (Pieces found) known (is, reads) = (
       let before = (goes_trans reads.readied.on reads.told.on).told observable in
       reads.told.settled (reads.readied.on.observable before) (reads.readied.settled before (known before)),
 )
+
+-- ---- the bytes that a read asks for are still to be got
+
+pub reads_no_upload : (op : Op) → ReadsBytes op → is_upload op ≡ true → ⊥
+reads_no_upload op (bucket, key, range, conditions, is) not = let no : false ≡ true = sym (ap is_upload is) ∙ not in cc
+
+pub reads_no_many : (op : Op) → ReadsBytes op → is_many op ≡ true → ⊥
+reads_no_many op (bucket, key, range, conditions, is) not = let no : false ≡ true = sym (ap is_many is) ∙ not in cc
+
+pub asks_reads : (means : Meant) (op : Op) → means ≡ meant.Op op → AsksBytes means → ReadsBytes op
+asks_reads means op is (bucket, key, range, conditions, asks) = (bucket, key, range, conditions, let same : meant.Op op ≡ meant.Op (GetObject bucket key range conditions) = sym is ∙ asks in cc)
+
+pub unsettled_leaves : (fault : SettleFault) → LeavesBytes (Whole (fault_reply fault))
+unsettled_leaves Failed = refl
+unsettled_leaves Memory = refl
+unsettled_leaves (Inconsistent container name) = refl

@@ -188,6 +188,13 @@ module _ {t h : ℕ} (head : List ℕ) (transcript after : Transcript) (soon : t
         paced = body'.paced;
       }
 
+  -- the last of them by the number of them all
+  pub counted_behind : {q count : ℕ} {done : List ℕ} (new : List Piece) (body : BodySent after.begun h done count after.sent new) (near : h + count ≤ q) → (pieces_behind new body near).first.at + length (pieces_behind new body near).others ≡ h + count
+  unfolding pieces_behind
+  counted_behind {count = count} {done = done} new body near =
+      let body' : BodySent transcript.begun h done count after.sent new = subst (λ n. BodySent n h done count after.sent new) begun_same body in
+      ap (λ n. h + n) body'.counted
+
 -- ---- the head of a read
 
 -- CR LF, as http_wire has it of httparse

@@ -35,7 +35,7 @@ use Rattle.account_calls.proofs.lemmas.Idle.{goes_trans}
 use Rattle.planner.specs.declared.reading.Found.{Found}
 use Rattle.planner.specs.declared.reading.Reading.{Reading}
 use Rattle.planner.specs.declared.reading.Reading.TheVariants.{Whole, Pieces}
-use Rattle.planner.specs.Reading.{found_reply, IsReadBy, HasFound, TellsPiece, AreFirst}
+use Rattle.planner.specs.Reading.{found_reply, IsReadBy, HasFound, TellsPiece, AreFirst, gives_bytes}
 use Rattle.s3_requests.specs.declared.meant.Meant.{Meant}
 use Rattle.s3_requests.specs.declared.meant.Meant.TheVariants as meant
 use Rattle.gateway.specs.declared.ended.Ended.{Ended}
@@ -44,12 +44,12 @@ use Rattle.gateway.specs.declared.handle.Handled.{Handled}
 use Rattle.gateway.specs.declared.handle.Handled.TheVariants.{Served, Broken, Parted}
 use Rattle.gateway.specs.declared.send.Stop.TheVariants as stop
 use Rattle.gateway.specs.Connection.{sent_by}
-use Rattle.gateway.specs.Exchange.{ReplyRelation, StoreCursor, store_cursor, Span, IsSpan, IsCaused, Asked, asked_by, Performs, answered, Replies, refused, performed, performed_any, RepliesBy, RepliesExpected, Where, ExpectedBytes, printed, out_of_memory, IsPiece, joined, Sends, SendsPart, Paced, SendsPieces, Exchange, CutExchange, PartExchange, BreaksOff, ReadsObject, Operated}
+use Rattle.gateway.specs.Exchange.{ReplyRelation, StoreCursor, store_cursor, Span, IsSpan, IsCaused, Asked, asked_by, Performs, answered, Replies, refused, performed, performed_any, RepliesBy, RepliesExpected, Where, ExpectedBytes, printed, out_of_memory, IsPiece, joined, Sends, SendsPart, Paced, SendsPieces, AsksBytes, ReadIsPaced, Exchange, CutExchange, PartExchange, BreaksOff, IsBrokenBy, ReadsObject, Operated}
 use Rattle.gateway.specs.Reading.{Reads, Got, BodySent, BodyCut, SentSoFar, SendsBody, SendsBehind, SendsObject, head_sent, head_unsent, head_cut, SendsReply, head_text, ended_by}
 use Rattle.gateway.specs.Request.{Request, reply_text, print}
 use Rattle.gateway.specs.Write.{IsReplyText, CutsHead}
 use Rattle.gateway.proofs.Operating.{rose_later}
-use Rattle.gateway.proofs.Pieces.{one_piece, part_of, part_longer, sent_behind, cut_behind, pieces_behind, head_and_body}
+use Rattle.gateway.proofs.Pieces.{one_piece, part_of, part_longer, sent_behind, cut_behind, pieces_behind, counted_behind, head_and_body}
 use Rattle.gateway.specs.Stands.{SpanPasses, Stood, Stands}
 use Rattle.gateway.proofs.lemmas.Order.{is_span_follows}
 use Rattle.gateway.proofs.lemmas.Passing.{performs_pass, all_pass_one}
@@ -63,7 +63,14 @@ Responds R connection old new request label sent sent' (Parted end) = (span : Sp
 
 -- ---- a whole reply
 
-module _ {R : ReplyRelation} (old new : StoreCursor) (transcript transcript' : Transcript) (request : Request) (label : Label) (given : Reply) (replied : RepliesExpected R old new request label given) where
+-- a reply that gives no bytes of an object is none with a body of it
+not_paced : (connection t q : ℕ) (means : Meant) (given reply : Reply) (bytes : List ℕ) (sent sent' : List Piece) → given ≡ reply → (AsksBytes means → gives_bytes given ≡ false)
+    → ReadIsPaced connection t q means reply bytes sent sent'
+not_paced connection t q means given reply bytes sent sent' same bare body asks (head, from, length, partial, has) =
+    absurd (let no : true ≡ false = sym (ap gives_bytes (same ∙ has)) ∙ bare asks in cc)
+
+module _ {R : ReplyRelation} (old new : StoreCursor) (transcript transcript' : Transcript) (request : Request) (label : Label) (given : Reply) (replied : RepliesExpected R old new request label given)
+    (bare : AsksBytes request.means → gives_bytes given ≡ false) where
   near : replied.span.committed ≤ new.number
   near = let last = replied.is_span.last in let to = replied.is_span.to in omega arith
 
@@ -79,6 +86,7 @@ module _ {R : ReplyRelation} (old new : StoreCursor) (transcript transcript' : T
           replies = replied.replies;
           due = printed (λ e. known (same ∙ e)) (λ i. print (same i) label request) is;
           sends = one_piece replied.span.committed new.number (print given label request) transcript transcript' near wrote;
+          paced = λ other. not_paced transcript.begun replied.span.committed new.number request.means given replied.due (print given label request) transcript.sent transcript'.sent same bare;
         },
       )
   whole_responds (Served end) (inr (is, wrote)) = (
@@ -90,6 +98,7 @@ module _ {R : ReplyRelation} (old new : StoreCursor) (transcript transcript' : T
       replies = replied.replies;
       due = out_of_memory refl is;
       sends = one_piece replied.span.committed new.number (memory_reply (is_head request.method)) transcript transcript' near wrote;
+      paced = λ other. absurd (other is);
     },
   )
   whole_responds Broken (bytes, inl (known, text), part) =
@@ -274,11 +283,18 @@ reads_object op found f reads = subst (λ o. ReadsObject (meant.Op o) (ended_by 
     by fault.Memory = tt
     by fault.Inconsistent = (refl, refl)
 
-behind_head : (found : Found) (f : PlanFault) (h middle new : ℕ) → h ≤ middle → CountsOne {T = List ℕ} middle new (Err f) → ended_by found f ≢ ended.Memory → (h < new) ⊎ (budget ≤ new)
-behind_head found fault.Failed h middle new near (inl counts) other = inl (omega arith)
-behind_head found fault.Failed h middle new near (inr (spent, same)) other = inr (omega arith)
-behind_head found fault.Memory h middle new near counts other = absurd (other refl)
-behind_head found fault.Inconsistent h middle new near counts other = inl (omega arith)
+-- the call that told nothing broke it off
+broken_by : (found : Found) (f : PlanFault) (p q before then now : ℕ) → p ≤ q → q ≤ p + 1 → then ≡ before → CountsOne {T = List ℕ} p q (Err f) → CausesFault {T = List ℕ} then now (Err f) → IsBrokenBy (ended_by found f) p q before now
+broken_by found fault.Failed p q before then now ordered near same counts cause = (counts, subst (λ n. Rose n now) same cause)
+broken_by found fault.Memory p q before then now ordered near same counts cause = (ordered, near, cause ∙ same)
+broken_by found fault.Inconsistent p q before then now ordered near same counts cause = (counts, cause ∙ same)
+
+-- an object was sent as its bytes came
+is_paced : (connection t q : ℕ) (means : Meant) (found : Found) (head body bytes : List ℕ) (sent sent' : List Piece) → bytes ≡ head ++ body → SendsPieces connection t q head body sent sent'
+    → ReadIsPaced connection t q means (found_reply found body) bytes sent sent'
+is_paced connection t q means found head body bytes sent sent' whole sends body' asks (head', from, length, partial, has) =
+    let same : body ≡ body' = cc in
+    (head, whole ∙ ap (λ b. head ++ b) same, subst (λ b. SendsPieces connection t q head b sent sent') same sends)
 
 module _ {settings : Settings} {op : Op} {label : Label} {found : Found} {old here : History} {was : Known} (all : Bool) (request : Request) (means : request.means ≡ meant.Op op)
     (reads : Reads settings op label found old here was [] 0) (met : Where all (Met (IsKnown was) old)) (line : LineModel) (observable : IsTrue line.observable) where
@@ -297,7 +313,7 @@ module _ {settings : Settings} {op : Op} {label : Label} {found : Found} {old he
 
   unsent_responds : (handled : Handled) (line' : LineModel) → SendsReply answer.Memory label request.method request.resource request.end line.transcript here.called handled line'.transcript
       → Responds (RepliesBy all settings here) line.transcript.begun (store_cursor old was) (store_cursor here known.Settled) request label line.transcript.sent line'.transcript.sent handled
-  unsent_responds handled line' sends = whole_responds (store_cursor old was) (store_cursor here known.Settled) line.transcript line'.transcript request label answer.Memory expected handled sends
+  unsent_responds handled line' sends = whole_responds (store_cursor old was) (store_cursor here known.Settled) line.transcript line'.transcript request label answer.Memory expected (λ asks. refl) handled sends
 
   head_responds : (line' : LineModel) → CutsHead line.transcript here.called head request.method line'.transcript
       → Responds (RepliesBy all settings here) line.transcript.begun (store_cursor old was) (store_cursor here known.Settled) request label line.transcript.sent line'.transcript.sent Broken
@@ -344,6 +360,9 @@ module _ {settings : Settings} {op : Op} {label : Label} {found : Found} {old he
             due = printed (no_memory found body) refl refl;
             sends = subst (λ b. Sends line.transcript.begun replies.span.committed new.called b line.transcript.sent line'.transcript.sent) (ap (λ b. head ++ b) (sym whole) ∙ sym (text body))
                 (sent_behind head line.transcript then.transcript replies.soon wrote line'.transcript.sent (so_far.sent seen) got.counted);
+            paced = λ sent. is_paced line.transcript.begun replies.span.committed new.called request.means found head body (print (found_reply found body) label request) line.transcript.sent line'.transcript.sent (text body)
+                (subst (λ b. SendsPieces line.transcript.begun replies.span.committed new.called head b line.transcript.sent line'.transcript.sent) (sym whole)
+                (pieces_behind head line.transcript then.transcript replies.soon wrote line'.transcript.sent (so_far.sent seen) (let counted = got.counted in omega arith)));
           },
         )
 
@@ -377,7 +396,11 @@ module _ {settings : Settings} {op : Op} {label : Label} {found : Found} {old he
         let counted = got.counted in
         let later = asks.grows.on.ordered in
         let sized = got.sized in
-        let replies = failed_replies request means (reads_more reads got) (omega arith) here.called begun asks all (few_pieces (so_far.count + 1) found.length (omega arith)) met in (
+        let few = asks.grows.calls in
+        let still : middle.faults ≡ old.faults = (reads_more reads got).told.faults ∙ reads.readied.still in
+        let replies = failed_replies request means (reads_more reads got) (omega arith) here.called begun asks all (few_pieces (so_far.count + 1) found.length (omega arith)) met in
+        let near : here.called + so_far.count ≤ new.called = omega arith in
+        let last = counted_behind head line.transcript then.transcript replies.soon wrote line'.transcript.sent (so_far.sent seen) near in (
           replies.span,
           record {
             reply = found_reply found (so_far.done ++ replies.rest);
@@ -392,8 +415,8 @@ module _ {settings : Settings} {op : Op} {label : Label} {found : Found} {old he
             read = (found.head, found.from, found.length, found.partial, refl);
             due = text (so_far.done ++ replies.rest);
             some_left = λ none. absurd (let whole = replies.sized in omega (arith, left, length_is, whole, length-append so_far.done replies.rest, ap length none));
-            sends = pieces_behind head line.transcript then.transcript replies.soon wrote line'.transcript.sent (so_far.sent seen) (omega arith);
-            behind = behind_head found f here.called middle.called new.called (omega arith) counts;
+            sends = pieces_behind head line.transcript then.transcript replies.soon wrote line'.transcript.sent (so_far.sent seen) near;
+            cause = subst (λ p. IsBrokenBy (ended_by found f) p new.called old.faults new.faults) (counted ∙ sym last) (broken_by found f middle.called new.called old.faults middle.faults new.faults later few still counts asks.cause);
             of_read = subst (λ m. ReadsObject m (ended_by found f)) (sym means) (reads_object op found f reads.reads);
           },
         )

@@ -1,4 +1,5 @@
 pub mod Counted
+pub mod Ending
 pub mod Map
 pub mod Order
 pub mod Passing

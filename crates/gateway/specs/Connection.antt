@@ -175,3 +175,14 @@ is_failed_end LineFailed = true
 is_failed_end StoreFailed = false
 is_failed_end (Inconsistent container name) = false
 is_failed_end Memory = false
+
+-- whether a read broke off because the store failed or was found inconsistent
+abbrev pub is_store_end : Ended → Bool
+is_store_end End = false
+is_store_end Closed = false
+is_store_end (CutShort place) = false
+is_store_end (Refused kind place) = false
+is_store_end LineFailed = false
+is_store_end StoreFailed = true
+is_store_end (Inconsistent container name) = true
+is_store_end Memory = false

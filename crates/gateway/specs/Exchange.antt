@@ -10,6 +10,8 @@ use Rattle.s3_machine.specs.declared.operation.Op.{Op}
 use Rattle.s3_machine.specs.declared.operation.Op.TheVariants as op
 use Rattle.s3_machine.specs.declared.operation.Reply.{Reply}
 use Rattle.s3_machine.specs.declared.operation.ObjectHead.{ObjectHead}
+use Rattle.s3_machine.specs.declared.reading.Conditions.{Conditions}
+use Rattle.s3_machine.specs.declared.reading.Range.{Range}
 use Rattle.s3_machine.specs.declared.operation.Reply.TheVariants.{Refused, Memory, Object}
 use Rattle.s3_machine.specs.Shown.{IsShowable}
 use Rattle.swift_calls.specs.History.{History, budget, present}
@@ -188,6 +190,35 @@ pub record SendsPart (connection t q : ℕ) (bytes : List ℕ) (old new : List P
   pub part : joined pieces ++ unsent ≡ bytes
   pub each : All (IsPiece connection t q) pieces
 
+-- the request reads an object
+abbrev pub AsksBytes : Meant → Type 0
+AsksBytes means = (bucket : List ℕ) × (key : List ℕ) × (range : Option Range) × (conditions : Conditions) × (means ≡ meant.Op (op.GetObject bucket key range conditions))
+
+-- the reply has these bytes as its body
+abbrev pub IsRead : Reply → List ℕ → Type 0
+IsRead reply body = (head : ObjectHead) × (from : ℕ) × (length : ℕ) × (partial : Bool) × (reply ≡ Object head from length partial body)
+
+-- pieces of a body, one for each number of calls from n on, each of at most 1 MiB
+unfoldable pub Paced : ℕ → List Piece → Type 0
+Paced n [] = Unit {0}
+Paced n (piece ∷ pieces) = (piece.at ≡ n) × (length piece.bytes ≤ 1048576) × Paced (n + 1) pieces
+
+-- the head was sent as one piece, and then bytes of the body as pieces, one for each call
+pub record SendsPieces (connection t q : ℕ) (head body : List ℕ) (old new : List Piece) : Type 0 where
+  pub first : Piece
+  pub others : List Piece
+  pub sent : new ≡ old ++ (first ∷ others)
+  pub each : All (IsPiece connection t q) (first ∷ others)
+  pub of_head : first.bytes ≡ head
+  pub of_body : joined others ≡ body
+  pub paced : Paced (first.at + 1) others
+
+-- where the request reads an object and the reply has bytes of it as its body: the head was sent as one piece, and behind it the
+-- body in pieces, the i-th after i calls more, so that none was sent later than the next was got
+abbrev pub ReadIsPaced : ℕ → ℕ → ℕ → Meant → Reply → List ℕ → List Piece → List Piece → Type 0
+ReadIsPaced connection t q means reply bytes old new =
+    (body : List ℕ) → AsksBytes means → IsRead reply body → (head : List ℕ) × (bytes ≡ head ++ body) × SendsPieces connection t q head body old new
+
 -- a request was answered, and the bytes of its reply were all sent; R is what is said of the reply
 pub record Exchange (R : ReplyRelation) (connection : ℕ) (old : StoreCursor) (span : Span) (new : StoreCursor) (request : Request) (label : Label)
     (end : Option Ended) (sent sent' : List Piece) : Type 0 where
@@ -197,6 +228,8 @@ pub record Exchange (R : ReplyRelation) (connection : ℕ) (old : StoreCursor) (
   pub replies : R old span new request label reply
   pub due : ExpectedBytes request label reply end bytes
   pub sends : Sends connection span.committed new.number bytes sent sent'
+  -- unless it is the out-of-memory reply that was sent, a read is sent as its bytes come
+  pub paced : end ≢ Some ended.Memory → ReadIsPaced connection span.committed new.number request.means reply bytes sent sent'
 
 -- a request was answered, and the line failed while the reply was written
 pub record CutExchange (R : ReplyRelation) (connection : ℕ) (old : StoreCursor) (span : Span) (new : StoreCursor) (request : Request) (label : Label)
@@ -222,24 +255,18 @@ BreaksOff ended.StoreFailed fault = fault ≡ Refused ServiceUnavailable
 BreaksOff (ended.Inconsistent container name) fault = fault ≡ Refused InconsistentStore
 BreaksOff ended.Memory fault = fault ≡ Memory
 
--- the reply has these bytes as its body
-abbrev pub IsRead : Reply → List ℕ → Type 0
-IsRead reply body = (head : ObjectHead) × (from : ℕ) × (length : ℕ) × (partial : Bool) × (reply ≡ Object head from length partial body)
-
--- pieces of a body, one for each number of calls from n on, each of at most 1 MiB
-unfoldable pub Paced : ℕ → List Piece → Type 0
-Paced n [] = Unit {0}
-Paced n (piece ∷ pieces) = (piece.at ≡ n) × (length piece.bytes ≤ 1048576) × Paced (n + 1) pieces
-
--- the head was sent as one piece, and then bytes of the body as pieces, one for each call
-pub record SendsPieces (connection t q : ℕ) (head body : List ℕ) (old new : List Piece) : Type 0 where
-  pub first : Piece
-  pub others : List Piece
-  pub sent : new ≡ old ++ (first ∷ others)
-  pub each : All (IsPiece connection t q) (first ∷ others)
-  pub of_head : first.bytes ≡ head
-  pub of_body : joined others ≡ body
-  pub paced : Paced (first.at + 1) others
+-- what broke off a read whose last piece was sent after p calls, by how the connection ends: the next call, which failed and was
+-- counted as a fault, or none was left to make; or the next, which told of no such object, or of other bytes than are asked for; or
+-- memory ran out, before the next call or after it. The store counted a fault only where it failed
+abbrev pub IsBrokenBy : Ended → ℕ → ℕ → ℕ → ℕ → Type 0
+IsBrokenBy ended.End p q faults faults' = ⊥
+IsBrokenBy ended.Closed p q faults faults' = ⊥
+IsBrokenBy (ended.CutShort place) p q faults faults' = ⊥
+IsBrokenBy (ended.Refused kind place) p q faults faults' = ⊥
+IsBrokenBy ended.LineFailed p q faults faults' = ⊥
+IsBrokenBy ended.StoreFailed p q faults faults' = ((q ≡ p + 1) ⊎ ((budget ≤ p) × (q ≡ p))) × Rose faults faults'
+IsBrokenBy (ended.Inconsistent container name) p q faults faults' = (q ≡ p + 1) × (faults' ≡ faults)
+IsBrokenBy ended.Memory p q faults faults' = (p ≤ q) × (q ≤ p + 1) × (faults' ≡ faults)
 
 -- the request reads an object, and where the store was found inconsistent, that is what the end names
 abbrev pub ReadsObject : Meant → Ended → Type 0
@@ -264,8 +291,9 @@ pub record PartExchange (R : ReplyRelation) (connection : ℕ) (old : StoreCurso
   pub due : print reply label request ≡ head ++ (part ++ unsent)
   pub some_left : unsent ≢ []
   pub sends : SendsPieces connection span.committed new.number head part sent sent'
-  -- the head was sent before the call that failed, unless none was left to make; and the request reads the object that is named
-  pub behind : end ≢ ended.Memory → (sends.first.at < new.number) ⊎ (budget ≤ new.number)
+  -- by the number at which the last piece was sent, the head where none was behind it
+  pub cause : IsBrokenBy end (sends.first.at + length sends.others) new.number old.faults new.faults
+  -- the request reads the object that is named
   pub of_read : ReadsObject request.means end
 
 -- ---- the functions that find a reply

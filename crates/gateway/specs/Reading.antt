@@ -49,6 +49,7 @@ use Rattle.gateway.specs.Write.{IsReplyText, CutsHead}
 -- the store as an operation finds it: it was settled, if that wasn't known to be needless
 pub record Readied (old middle : History) (was : Known) : Type 0 where
   pub on : GoesOn old middle
+  pub still : middle.faults ≡ old.faults
   pub by : Met (IsKnown was) old → SettledBy middle was old.called middle.called
   pub settled : IsTrue old.observable → IsKnown was (present old) → IsSettled (present middle)
 

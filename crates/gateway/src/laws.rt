@@ -1,5 +1,5 @@
 //! Laws of the definitions, each the contract of a function that does nothing.
-ghost use Rattle.gateway.specs.Laws.{CalendarsAgree};
+ghost use Rattle.gateway.specs.Laws.{CalendarsAgree, FailedStoreRose, FoundConsistent};
 ghost use Rattle.gateway.specs.Life.{CountedWhole, ManyRuns, OneRun, SentIsCounted, StandsAll};
 
 /// Through a run the account is consistent after each call, and goes through the steps of the request that has the call.
@@ -33,4 +33,14 @@ pub fn law_sent_is_counted()
 /// numbers of one scale.
 pub fn law_calendars_agree()
     ensures { CalendarsAgree }
+{}
+
+/// A connection ends because the store failed only where its count of faults rose, over every store.
+pub fn law_failed_store_rose()
+    ensures { FailedStoreRose }
+{}
+
+/// No connection ends because the store was found inconsistent, where it is observable and its account consistent.
+pub fn law_found_consistent()
+    ensures { FoundConsistent }
 {}

@@ -8,6 +8,8 @@ ghost use Rattle.account_calls.specs.Known.{Knows};
 ghost use Rattle.account_calls.specs.Plan.{reply_of};
 ghost use Rattle.recovery.specs.Settling.{Settles, settle_fault};
 ghost use Rattle.s3_requests.specs.Proper.{IsProperMeant};
+ghost use Rattle.planner.specs.Reading.{LeavesBytes, ReadsBytes};
+ghost use Rattle.gateway.specs.Exchange.{AsksBytes};
 ghost use Rattle.gateway.specs.Reading.{PerformsOrFinds, IsReady, OperatedOrReads, RepliedOrReads};
 
 use account_calls::{Known, Settled, is_many, is_upload};
@@ -42,6 +44,9 @@ pub fn reply_to<W: Swift>(
     ensures ready { IsReady (W.history store.new) result }
     ensures replied { RepliedOrReads settings.now means label.now (W.history store.old)
         (W.history store.new) known.old known.new result }
+
+    // The bytes that a read asks for are still to be got.
+    ensures leaves { AsksBytes means → LeavesBytes result }
 {
     match means {
         Meant::Op(op) => settle_and_perform(alloc, store, known, settings, op, label),
@@ -62,8 +67,9 @@ fn settle_and_perform<W: Swift>(
 ) -> Reading
     requires proper { IsProper op label.now }
     requires knows { Knows known.old (W.history store.old) }
-    ensures { OperatedOrReads settings.now op label.now (W.history store.old) (W.history store.new)
-        known.old known.new result }
+    ensures operated { OperatedOrReads settings.now op label.now (W.history store.old)
+        (W.history store.new) known.old known.new result }
+    ensures leaves { ReadsBytes op → LeavesBytes result }
 {
     match known {
         Known::Settled => {}
@@ -101,8 +107,9 @@ fn perform_on_settled_store<W: Swift>(
     requires proper { IsProper op label.now }
     requires settled { IsTrue (W.history store.old).observable
         → IsSettled (present (W.history store.old)) }
-    ensures { PerformsOrFinds (W.history store.old) (W.history store.new) settings.now op label.now
-        result.known result.reading }
+    ensures performs { PerformsOrFinds (W.history store.old) (W.history store.new) settings.now op
+        label.now result.known result.reading }
+    ensures leaves { ReadsBytes op → LeavesBytes result.reading }
 {
     let mut state = Settled::hold(store, settings);
     perform(alloc, &mut state, op, label)
@@ -115,6 +122,7 @@ fn perform<W: Swift>(alloc: Global, state: &mut Settled<'_, W>, op: Op, label: &
     ensures performs { PerformsOrFinds (W.history state.old.store.now)
         (W.history state.new.store.now) state.old.settings.now op label.now result.known
         result.reading }
+    ensures leaves { ReadsBytes op → LeavesBytes result.reading }
 {
     if is_upload(&op) {
         let replied = plan_uploads::answer(alloc, state, op, label);

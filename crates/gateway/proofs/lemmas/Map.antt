@@ -57,6 +57,7 @@ module _ {R R' : ReplyRelation} {first last : StoreCursor} (f : FollowsBetween R
     replies = f old new span request label exchange.reply exchange.is_span between exchange.replies;
     due = exchange.due;
     sends = exchange.sends;
+    paced = exchange.paced;
   }
 
   pub cut_exchange_map : {connection : ℕ} {old new : StoreCursor} {span : Span} {request : Request} {label : Label} {sent sent' : List Piece} → Between first last old new
@@ -113,7 +114,7 @@ module _ {R R' : ReplyRelation} {first last : StoreCursor} (f : FollowsBetween R
     due = exchange.due;
     some_left = exchange.some_left;
     sends = exchange.sends;
-    behind = exchange.behind;
+    cause = exchange.cause;
     of_read = exchange.of_read;
   }
 

@@ -26,7 +26,7 @@ returns-clause-serves g c =
       stands = handled_stands settings old here new was now c.next_label-next.result label resolved line line' handled reading replied sends;
       effect = λ told all met.
           handled_effect settings old here new was now c.next_label-next.result label resolved line line' handled _ _ _ _ (asks_of c.args.service.now c.args.received) c.resolve-resolved.ensures.is c.sent_by-label.ensures
-          (c.next_label-next.ensures.effect told.clock told.draws) all met told.line reading replied sends;
+          (c.next_label-next.ensures.effect told.clock told.draws) all met told.line reading c.reply_to-reading.ensures.leaves replied sends;
     }
 
 pub returns-clause-endings : goal.returns-clause-endings

@@ -2,15 +2,15 @@ use Rattle.std.proofs.Common.{◌≡◌, subst, refl}
 use Rattle.account_calls.proofs.lemmas.Idle.{goes_none}
 use Rattle.gateway.specs.ResolvedRequest.{Understands}
 use Rattle.s3_requests.specs.Proper.{IsProperMeant}
-use Rattle.gateway.proofs.Operating.{ready_of}
+use Rattle.gateway.proofs.Operating.{ready_of, asks_reads}
 use Rattle.gateway.proofs.Replying.{code_meant, replied_by, replied_refused, replied_memory, stands_still}
 use Rattle.gateway.proofs.reply.reply_to.Goals as goal
 
 pub returns-in-Op-clause-ready : goal.returns-in-Op-clause-ready
-returns-in-Op-clause-ready g c = ready_of c.args.settings.now c.in-Op.op c.args.label.now (g.W.Swift.history c.args.store.now) (g.W.Swift.history c.settle_and_perform.new.store) c.args.known.now c.settle_and_perform.new.known c.settle_and_perform.result c.requires.knows c.settle_and_perform.ensures
+returns-in-Op-clause-ready g c = ready_of c.args.settings.now c.in-Op.op c.args.label.now (g.W.Swift.history c.args.store.now) (g.W.Swift.history c.settle_and_perform.new.store) c.args.known.now c.settle_and_perform.new.known c.settle_and_perform.result c.requires.knows c.settle_and_perform.ensures.operated
 
 pub returns-in-Op-clause-replied : goal.returns-in-Op-clause-replied
-returns-in-Op-clause-replied g c = replied_by c.args.settings.now c.args.label.now (g.W.Swift.history c.args.store.now) (g.W.Swift.history c.settle_and_perform.new.store) c.args.known.now c.settle_and_perform.new.known c.args.means c.in-Op.op c.in-Op.is c.settle_and_perform.result c.settle_and_perform.ensures
+returns-in-Op-clause-replied g c = replied_by c.args.settings.now c.args.label.now (g.W.Swift.history c.args.store.now) (g.W.Swift.history c.settle_and_perform.new.store) c.args.known.now c.settle_and_perform.new.known c.args.means c.in-Op.op c.in-Op.is c.settle_and_perform.result c.settle_and_perform.ensures.operated
 
 pub returns-in-Refused-clause-replied : goal.returns-in-Refused-clause-replied
 returns-in-Refused-clause-replied g c = record {
@@ -32,3 +32,12 @@ returns-in-Memory-clause-replied g c = record {
   stands = stands_still c.args.settings.now c.args.known.now (g.W.Swift.history c.args.store.now);
   effect = λ all met request understands from. replied_memory _ _ _ request _ all (subst (λ means. Understands means request) c.in-Memory.is understands) met;
 }
+
+pub returns-in-Op-clause-leaves : goal.returns-in-Op-clause-leaves
+returns-in-Op-clause-leaves g c = λ asks. c.settle_and_perform.ensures.leaves (asks_reads c.args.means c.in-Op.op c.in-Op.is asks)
+
+pub returns-in-Refused-clause-leaves : goal.returns-in-Refused-clause-leaves
+returns-in-Refused-clause-leaves g c = λ asks. refl
+
+pub returns-in-Memory-clause-leaves : goal.returns-in-Memory-clause-leaves
+returns-in-Memory-clause-leaves g c = λ asks. refl
