@@ -8,9 +8,10 @@ use Rattle.swift_calls.specs.History.{History, Extends}
 use Rattle.upload_records.specs.Consistent.{IsConsistent}
 use Rattle.gateway.specs.declared.service.Service.{Service}
 use Rattle.gateway.specs.Exchange.{ReplyRelation, StoreCursor, Span, IsKnownOf, Replies, RepliesBy, CountedReplies, FaultFreeReplies}
-use Rattle.gateway.specs.Connection.{is_failed_end}
+use Rattle.gateway.specs.Connection.{is_failed_end, is_store_end}
 use Rattle.gateway.specs.Stands.{Follows, AllPass, StandsThroughout}
 use Rattle.gateway.proofs.lemmas.Counted.{replies_take}
+use Rattle.gateway.proofs.lemmas.Ending.{no_store_end}
 use Rattle.gateway.proofs.lemmas.Order.{follows_none, follows_append, connection_trace_order, connection_trace_order_faults, connection_trace_follow}
 use Rattle.gateway.proofs.lemmas.Map.{Between, between_ends, FollowsBetween, connection_trace_map, by_agree, fault_free_map}
 use Rattle.gateway.proofs.lemmas.Passing.{all_pass_none, all_pass_append, connection_trace_pass, connection_trace_sound, connection_trace_known}
@@ -69,18 +70,6 @@ module _ {service : Service} {R : ReplyRelation} where
       let one = ap length serves.faulty ∙ faulty_more (is_failed_end serves.ended) middle.faulty (new.begun - 1) in
       omega arith
 
-  -- where none was faulty, the line failed under none
-  pub run_trace_unbroken : {old new : RunCursor} {spans : List Span} → RunTrace service R old spans new → length old.faulty ≡ old.begun → new.faulty ≡ old.faulty ++ replicate (new.begun - old.begun) false
-      → Unbroken service R old spans new
-  run_trace_unbroken (none cursor) placed same = none_served cursor
-  run_trace_unbroken (more old middle new spans next trace serves) placed same =
-      let rises = run_trace_begun trace in
-      let before = run_trace_faulty trace in
-      let begun = serves.begun in
-      let one : new.begun - old.begun ≡ (middle.begun - old.begun) + 1 = omega arith in
-      let good = last_good (is_failed_end serves.ended) middle.faulty old.faulty (middle.begun - old.begun) (new.begun - 1) (omega arith) (sym serves.faulty ∙ same ∙ ap (λ n. old.faulty ++ replicate n false) one) in
-      one_more old middle new spans next (run_trace_unbroken trace placed good.1) serves good.0
-
 -- ---- what is said of replies, said otherwise
 
 module _ {R R' : ReplyRelation} {first last : StoreCursor} (f : FollowsBetween R R' first last) where
@@ -127,6 +116,18 @@ run_trace_counted service h {old = old} {new = new} trace =
 -- ---- over an observable store
 
 module _ {service : Service} {h : History} where
+  -- where none was faulty and none was answered ServiceUnavailable, the line failed under none and no read broke off
+  pub run_trace_unbroken : {old new : RunCursor} {spans : List Span} → RunTrace service (FaultFreeReplies (Replies service.settings h)) old spans new → length old.faulty ≡ old.begun → new.faulty ≡ old.faulty ++ replicate (new.begun - old.begun) false
+      → Unbroken service (FaultFreeReplies (Replies service.settings h)) old spans new
+  run_trace_unbroken (none cursor) placed same = none_served cursor
+  run_trace_unbroken (more old middle new spans next trace serves) placed same =
+      let rises = run_trace_begun trace in
+      let before = run_trace_faulty trace in
+      let begun = serves.begun in
+      let one : new.begun - old.begun ≡ (middle.begun - old.begun) + 1 = omega arith in
+      let good = last_good (is_failed_end serves.ended) middle.faulty old.faulty (middle.begun - old.begun) (new.begun - 1) (omega arith) (sym serves.faulty ∙ same ∙ ap (λ n. old.faulty ++ replicate n false) one) in
+      one_more old middle new spans next (run_trace_unbroken trace placed good.1) serves good.0 (no_store_end serves.ended serves.trace)
+
   -- the account goes through the steps of all requests
   pub run_trace_pass : {old new : RunCursor} {spans : List Span} → RunTrace service (Replies service.settings h) old spans new → AllPass service.settings h spans
   run_trace_pass (none cursor) = all_pass_none service.settings h

@@ -5,7 +5,7 @@ use Rattle.gate_base.specs.Causes.{Rose}
 use Rattle.swift_calls.specs.History.{History}
 use Rattle.upload_records.specs.Consistent.{IsConsistent}
 use Rattle.upload_records.specs.Native.{s3_state}
-use Rattle.gateway.specs.Connection.{is_failed_end}
+use Rattle.gateway.specs.Connection.{is_failed_end, is_store_end}
 use Rattle.gateway.specs.Exchange.{ReplyRelation, Span, Replies, RepliesBy, CountedReplies, FaultFreeReplies}
 use Rattle.gateway.specs.Life.{After}
 use Rattle.gateway.specs.Stands.{Follows, AllPass, StandsThroughout}
@@ -31,15 +31,15 @@ TraceFaultFree = (all : Bool) (service : Service) (h : History) (old : RunCursor
     → RunTrace service (RepliesBy all service.settings h) old spans new
     → (Rose old.progress.store.faults new.progress.store.faults → ⊥) → RunTrace service (FaultFreeReplies (RepliesBy all service.settings h)) old spans new
 
--- a run trace in which the line failed under no connection
+-- a run trace in which the line failed under no connection, and no read broke off because of the store
 pub data Unbroken (service : Service) (R : ReplyRelation) : RunCursor → List Span → RunCursor → Type 0 where
   none_served : (cursor : RunCursor) → Unbroken service R cursor [] cursor
   one_more : (old middle new : RunCursor) (spans next : List Span) → Unbroken service R old spans middle
-      → (serves : ServesNext service R middle next new) → is_failed_end serves.ended ≡ false → Unbroken service R old (spans ++ next) new
+      → (serves : ServesNext service R middle next new) → is_failed_end serves.ended ≡ false → is_store_end serves.ended ≡ false → Unbroken service R old (spans ++ next) new
 
 -- a run over an observable store, in which neither the store's count of faults nor the line's rose (then no connection that began
--- was faulty): each connection was served without a failed line, no request was answered ServiceUnavailable, and the account at
--- its end is that of the counted requests, taken in order by the machine's step
+-- was faulty): each connection was served without a failed line, no read broke off because of the store, no request was answered
+-- ServiceUnavailable, and the account at its end is that of the counted requests, taken in order by the machine's step
 abbrev pub RunFaultFree : Type 0
 RunFaultFree = (service : Service) (h : History) (old : RunCursor) (spans : List Span) (new : RunCursor)
     → RunTrace service (Replies service.settings h) old spans new → IsConsistent (h.account_at old.progress.store.number)

@@ -18,8 +18,8 @@ pub fn law_trace_fault_free()
     ensures { TraceFaultFree }
 {}
 
-/// A run without a fault of store or line, as one statement: no connection broke off, no request is answered ServiceUnavailable,
-/// and the account at its end is that of its requests, taken in order by the machine's step.
+/// A run without a fault of store or line, as one statement: no connection and no read broke off, no request is answered
+/// ServiceUnavailable, and the account at its end is that of its requests, taken in order by the machine's step.
 pub fn law_run_fault_free()
     ensures { RunFaultFree }
 {
