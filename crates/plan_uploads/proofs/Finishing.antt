@@ -1,5 +1,5 @@
 -- The call that seals a completion, and those behind it that finish it.
-use Rattle.std.specs.Prelude.{◌≡◌, ◌⊎◌, ◌+◌, ℕ, List, Result, Ok, Err, IfOk}
+use Rattle.std.specs.Prelude.{◌≡◌, ◌⊎◌, ◌+◌, ℕ, IsTrue, List, Some, Result, Ok, Err, IfOk}
 use Rattle.std.proofs.Common.{refl, sym, ap, subst, ◌∙◌, inl, inr, arith}
 use Rattle.gate_base.specs.Causes.{Rose}
 use Rattle.s3_machine.specs.State.{State}
@@ -11,15 +11,18 @@ use Rattle.s3_machine.specs.declared.operation.Op.TheVariants.{CompleteUpload}
 use Rattle.s3_machine.specs.declared.operation.Reply.{Reply}
 use Rattle.s3_machine.specs.declared.operation.Reply.TheVariants.{Completed}
 use Rattle.s3_machine.specs.declared.operation.Settings.{Settings}
-use Rattle.swift_calls.specs.Account.{SwiftAccount}
+use Rattle.swift_calls.specs.Account.{SwiftAccount, files}
 use Rattle.swift_calls.specs.History.{History, present}
 use Rattle.upload_texts.specs.declared.sealed.Sealed.{Sealed}
-use Rattle.upload_records.specs.Native.{IsSettled, s3_state, sealed_sub_manifests}
+use Rattle.upload_records.specs.Layout.{gateway_name}
+use Rattle.upload_records.specs.Native.{IsSettled, s3_state, seal_of, sealed_sub_manifests}
+use Rattle.upload_records.proofs.lemmas.Settled.{seal_holds}
 use Rattle.account_calls.specs.Answers.{ends_by_commit, machine, memory, steps_of, unavailable}
 use Rattle.account_calls.specs.Calls.{always, Asks, Becomes, Commits, CommitsUntold, GivenOf, Keeps, Met, Writes}
 use Rattle.account_calls.specs.Fault.{CausesFault}
 use Rattle.account_calls.specs.Plan.{CausesEnd, EndsPlan, IsOwnReply, Plans, reply_of}
 use Rattle.account_calls.specs.Known.{IsKnown}
+use Rattle.account_calls.specs.Puts.{Ensures, EnsuresIfDone}
 use Rattle.account_calls.specs.Stutters.{LastFailed, Stutters}
 use Rattle.account_calls.specs.declared.fault.PlanFault.{PlanFault}
 use Rattle.account_calls.specs.declared.fault.PlanFault.TheVariants.{Failed, Memory, Inconsistent}
@@ -27,8 +30,9 @@ use Rattle.account_calls.specs.declared.state.Known.TheVariants.{Settled, Unsure
 use Rattle.account_calls.proofs.lemmas.Agree.{last_within, passes_once, passes_rest, passes_still}
 use Rattle.account_calls.proofs.lemmas.Ends.{met_within}
 use Rattle.account_calls.proofs.lemmas.Idle.{goes_trans}
-use Rattle.recovery.specs.Rolls.{IsSealed, Leaves, LeavesClear}
-use Rattle.plan_uploads.specs.Completing.{CompletesBy, MaySeal, Seals, end_complete_upload_sealed, finishes}
+use Rattle.account_calls.proofs.lemmas.Puts.{done_so}
+use Rattle.recovery.specs.Rolls.{HoldsOrFinished, IsFinished, IsSealed, Leaves, LeavesClear}
+use Rattle.plan_uploads.specs.Completing.{CompletesBy, EndsQuietly, MaySeal, Seals, StandsAs, end_complete_upload_sealed, finishes}
 use Rattle.plan_uploads.specs.declared.complete.Completing.{Completing}
 use Rattle.plan_uploads.proofs.Behind.{commits_agree}
 
@@ -192,3 +196,51 @@ module _ (settings : Settings) (s : Sealed) (text : List ℕ) (list : List Liste
         → Plans (always (4 + sealed_sub_manifests s)) a c settings (GivenOf (CompletesBy settings text list label s)) (asked s text list) label completing.known completing.end
     finished_then completing reply is same =
         subst (λ (x : Completing). Plans (always (4 + sealed_sub_manifests s)) a c settings (GivenOf (CompletesBy settings text list label s)) (asked s text list) label x.known x.end) (sym (is ∙ ap (end_complete_upload_sealed finished) same)) amounts
+
+-- ---- the last call
+
+-- where one behind the seal failed, it was the last
+pub ends_quietly : {s : Sealed} {a b c : History} {finished : Result (Unit {0}) PlanFault} (completing : Completing) (reply : Reply) → completing ≡ end_complete_upload_sealed finished reply → Seals a b s (Ok tt)
+    → Asks (always (3 + sealed_sub_manifests s)) b c (IsSealed s) (Leaves IsSettled) finished → Met (GivenOf (MaySeal s)) a → IfOk completing.end (λ told. EndsQuietly c a.called c.called)
+ends_quietly {s = s} {a = a} {b = b} {c = c} {finished = finished} completing reply is seals asks met =
+    subst (λ (x : Completing). IfOk x.end (λ told. EndsQuietly c a.called c.called)) (sym is) (by finished (asks.effect behind))
+  where
+    behind : Met (IsSealed s) b
+    behind = record { observable = seals.grows.on.observable met.observable; sound = (seals.effect met).0.sound; has = seals.leaves met }
+
+    still : c.faults_at b.called ≡ c.faults_at a.called
+    still =
+        let ordered = seals.grows.on.ordered in
+        let kept = asks.grows.on.kept (seals.grows.on.observable met.observable) in
+        kept.counts b.called (omega arith) ∙ (seals.effect met).1 ∙ sym (kept.counts a.called ordered)
+
+    by : (finished : Result (Unit {0}) PlanFault) → Keeps c b.called c.called (Leaves IsSettled) finished → IfOk (end_complete_upload_sealed finished reply).end (λ told. EndsQuietly c a.called c.called)
+    by (Ok done) keeps = inl (keeps.1 ∙ still)
+    by (Err Failed) keeps =
+        let ordered = seals.grows.on.ordered in
+        let after = keeps.1.after_p in
+        inr (record { last = keeps.1.last; after_p = omega (arith, ordered, after); no_fault = keeps.1.no_fault ∙ still; fails = keeps.1.fails })
+    by (Err Memory) keeps = inl (keeps.1 ∙ still)
+    by (Err Inconsistent) never = tt
+
+-- ---- over every observable store
+
+-- what was sealed stands, or the files that finish it
+held_or_finished : (s : Sealed) (middle new : SwiftAccount) → seal_of middle ≡ Some s → (files new gateway_name ≡ files middle gateway_name) ⊎ IsFinished s new → (seal_of new ≡ Some s) ⊎ IsFinished s new
+held_or_finished s middle new sealed (inl same) = inl (seal_holds middle new same ∙ sealed)
+held_or_finished s middle new sealed (inr done) = inr done
+
+stands_end : (s : Sealed) (h : History) (finished : Result (Unit {0}) PlanFault) (reply : Reply) → Ensures h (IsFinished s) finished → (IsTrue h.observable → (seal_of (present h) ≡ Some s) ⊎ IsFinished s (present h))
+    → EnsuresIfDone h (StandsAs (end_complete_upload_sealed finished reply).known s) (end_complete_upload_sealed finished reply).end
+stands_end s h (Ok done) reply finishes either = record { so = λ observable. done_so reply (finishes.so observable) }
+stands_end s h (Err Failed) reply finishes either = record { so = λ observable. done_so reply (either observable) }
+stands_end s h (Err Memory) reply finishes either = record { so = λ observable. done_so reply (either observable) }
+stands_end s h (Err Inconsistent) reply finishes either = record { so = λ observable. tt }
+
+pub stands_then : {s : Sealed} {b c : History} {finished : Result (Unit {0}) PlanFault} (reply : Reply) (completing : Completing) → completing ≡ end_complete_upload_sealed finished reply
+    → Asks (always (3 + sealed_sub_manifests s)) b c (IsSealed s) (Leaves IsSettled) finished → Ensures c (IsFinished s) finished → (IsTrue b.observable → seal_of (present b) ≡ Some s) → HoldsOrFinished s b c
+    → EnsuresIfDone c (StandsAs completing.known s) completing.end
+stands_then {s = s} {b = b} {c = c} {finished = finished} reply completing is asks ends sealed rolls =
+    let told = asks.grows.on.told in
+    subst (λ (x : Completing). EnsuresIfDone c (StandsAs x.known s) x.end) (sym is)
+    (stands_end s c finished reply ends (λ observable. held_or_finished s (present b) (present c) (sealed (told observable)) (rolls (told observable))))

@@ -18,13 +18,14 @@ use Rattle.swift_calls.specs.declared.calls.SwiftRequest.{SwiftRequest}
 use Rattle.upload_texts.specs.Sealed.{read_sealed}
 use Rattle.upload_texts.specs.declared.sealed.Sealed.{Sealed}
 use Rattle.upload_records.specs.Layout.{gateway_name, sealed_name}
-use Rattle.upload_records.specs.Native.{seal_of, s3_state}
+use Rattle.upload_records.specs.Native.{seal_by, seal_of, s3_state}
 use Rattle.upload_records.specs.Consistent.{IsConsistent, IsStored}
 use Rattle.upload_records.specs.Laws.{CompletionSealed, SealsCompletion, file_put}
 use Rattle.upload_records.proofs.lemmas.Settled.{unsealed_of}
 use Rattle.account_calls.specs.Calls.{always, Becomes, Commits, GivenOf, Met, Writes}
 use Rattle.account_calls.specs.Fault.{plan_fault}
 use Rattle.account_calls.specs.Interpret.{stored_due}
+use Rattle.account_calls.specs.Puts.{Ensures, StandsIn}
 use Rattle.account_calls.specs.declared.fault.PlanFault.{PlanFault}
 use Rattle.account_calls.specs.declared.fault.PlanFault.TheVariants.{Failed, Memory, Inconsistent}
 use Rattle.account_calls.proofs.lemmas.Causes.{due_cause}
@@ -33,6 +34,7 @@ use Rattle.account_calls.proofs.lemmas.Faults.{err_is}
 use Rattle.account_calls.proofs.lemmas.Idle.{grows_none, none_made, stays}
 use Rattle.account_calls.proofs.lemmas.Markers.{folder_is_marker, text_is_marker}
 use Rattle.account_calls.proofs.lemmas.One.{Effect, fault_cause, found, grows_one, lost_last, spent_last, stays_so}
+use Rattle.account_calls.proofs.lemmas.Puts.{file_stands}
 use Rattle.account_calls.proofs.lemmas.SideNames.{file_name}
 use Rattle.recovery.specs.Rolls.{HasGateway, IsSealed, KeepsGateway}
 use Rattle.plan_uploads.specs.Completing.{MaySeal, Seals, finishes, most_sealed_text, put_sealed_text}
@@ -184,3 +186,15 @@ module _ {old new : History} {request : SwiftRequest} {s : Sealed} {text : List 
       left_if : (result : Result (Unit {0}) PlanFault) → IsSealed s (present new) → IfOk result (λ done. IsSealed s (present new))
       left_if (Ok told) sealed = sealed
       left_if (Err fault) sealed = tt
+
+-- ---- over every observable store
+
+seal_reads : (tree : SwiftAccount) (s : Sealed) (text : List ℕ) → read_sealed text ≡ Some s → StandsIn tree (put_sealed_text text) → seal_of tree ≡ Some s
+unfolding seal_of
+seal_reads tree s text reads stands = ap seal_by stands ∙ reads
+
+-- what is sealed is this completion, where the PUT of its text was answered so
+pub seal_stands : {a b : History} {request : SwiftRequest} {reply : SwiftReply} {s : Sealed} {text : List ℕ} (etag : List ℕ) → request ≡ put_sealed_text text → read_sealed text ≡ Some s → Calls a b request (Ok reply)
+    → (result : Result (Unit {0}) PlanFault) → result ≡ stored_due etag reply → Ensures b (λ tree. seal_of tree ≡ Some s) result
+seal_stands {b = b} {s = s} {text = text} etag same reads calls (Ok done) is = record { so = λ observable. seal_reads (present b) s text reads (subst (StandsIn (present b)) same (file_stands etag calls (sym is) observable)) }
+seal_stands etag same reads calls (Err fault) is = record { so = λ observable. tt }

@@ -1,6 +1,6 @@
 -- The completion of an upload: what is found of the upload, which of its parts are listed, the completion that is sealed, and how
 -- its calls end. Source: Amazon S3 API Reference, "CompleteMultipartUpload", and this profile.
-use Rattle.std.specs.Prelude.{◌≡◌, ℕ, Bool, true, false, T, ◌&&◌, ◌||◌, cond, bytes_eq, nat_lt, List, [], ◌∷◌, map, codes, Option, None, Some, Result, Ok, Err, IfOk}
+use Rattle.std.specs.Prelude.{◌≡◌, ◌⊎◌, ◌≤◌, ◌+◌, ℕ, Bool, true, false, T, ◌&&◌, ◌||◌, cond, bytes_eq, nat_lt, List, [], ◌∷◌, map, codes, Option, None, Some, Result, Ok, Err, IfOk}
 use Rattle.std.specs.Cmp.Lexicographic.{pointwise}
 use Rattle.std.specs.FinMap.{from_entries, get, is_sorted}
 use Rattle.std.specs.Ordering.{nat_cmp}
@@ -28,18 +28,19 @@ use Rattle.upload_texts.specs.declared.record.Record.TheVariants.{Open, Done}
 use Rattle.upload_texts.specs.declared.sealed.Sealed.{Sealed}
 use Rattle.upload_texts.specs.declared.sealed.SealedPart.{SealedPart}
 use Rattle.upload_records.specs.Layout.{gateway_name, sealed_name, segments_name, uploads_name}
-use Rattle.upload_records.specs.Native.{IsSettled, finished_from, kept_by, parts_of, record_at, s3_state}
+use Rattle.upload_records.specs.Native.{IsSettled, finished_from, kept_by, parts_of, record_at, s3_state, seal_of}
 use Rattle.upload_records.specs.Consistent.{IsThere, SealedIn}
 use Rattle.account_calls.specs.Answers.{may_be_sealed}
 use Rattle.account_calls.specs.Calls.{always, Becomes, GivenOf, Grows, LacksBucket, Met, Writes}
 use Rattle.account_calls.specs.Fault.{CausesFault}
 use Rattle.account_calls.specs.Plan.{reply_of}
+use Rattle.account_calls.specs.Stutters.{LastFailed}
 use Rattle.account_calls.specs.declared.fault.PlanFault.{PlanFault}
 use Rattle.account_calls.specs.declared.fault.PlanFault.TheVariants.{Failed, Memory, Inconsistent}
 use Rattle.account_calls.specs.declared.state.Known.{Known}
 use Rattle.account_calls.specs.declared.state.Known.TheVariants as known
 use Rattle.upload_calls.specs.Records.{items_above}
-use Rattle.recovery.specs.Rolls.{IsSealed, KeepsGateway}
+use Rattle.recovery.specs.Rolls.{IsFinished, IsSealed, KeepsGateway}
 use Rattle.plan_uploads.specs.declared.completed.Opened.{Opened}
 use Rattle.plan_uploads.specs.declared.completed.ToComplete.{ToComplete}
 use Rattle.plan_uploads.specs.declared.completed.ToComplete.TheVariants as found
@@ -203,3 +204,24 @@ end_complete_upload_sealed (Ok done) reply = record { end = Ok reply; known = kn
 end_complete_upload_sealed (Err Failed) reply = record { end = Ok reply; known = known.Unsure }
 end_complete_upload_sealed (Err Memory) reply = record { end = Ok reply; known = known.Unsure }
 end_complete_upload_sealed (Err Inconsistent) reply = record { end = Err Inconsistent; known = known.Unsure }
+
+-- no call between two numbers failed, or the last one did and none before it
+abbrev pub EndsQuietly : History → ℕ → ℕ → Type 0
+EndsQuietly h p q = (h.faults_at q ≡ h.faults_at p) ⊎ LastFailed h p q
+
+-- ---- what stands of a completion that was done, over every observable store, whether its account is consistent or not
+
+-- the files of its object and of its record, or else what is sealed, where that is unsure
+abbrev pub StandsAs : Known → Sealed → SwiftAccount → Type 0
+StandsAs known.Settled s tree = IsFinished s tree
+StandsAs known.Unsure s tree = (seal_of tree ≡ Some s) ⊎ IsFinished s tree
+
+-- so it is with one of this key by this list
+pub record StandsCompleted (known : Known) (bucket key : List ℕ) (list : List Listed) (moment : ℕ) (tree : SwiftAccount) : Type 0 where
+  pub opened : Opened
+  pub chosen : List SealedPart
+  pub stands : StandsAs known (completion_of bucket key opened chosen list moment) tree
+
+-- it was told of by the first two calls, or it stands so
+abbrev pub ToldOrStands : Known → List ℕ → List ℕ → List Listed → ℕ → History → History → SwiftAccount → Type 0
+ToldOrStands known bucket key list moment old new tree = (new.called ≤ old.called + 2) ⊎ StandsCompleted known bucket key list moment tree

@@ -1,11 +1,14 @@
 -- What is given of an upload that is created, what a plan leaves beside the state, and the replies by what the last calls told.
 -- Source: this profile.
 use Rattle.std.specs.Prelude.{ℕ, Bool, List, Some, Result, Ok, Err}
+use Rattle.gate_base.specs.declared.page.Pair.{Pair}
 use Rattle.s3_names.specs.declared.acl.Acl.{Acl}
 use Rattle.s3_names.specs.Id.{id_digits}
 use Rattle.s3_machine.specs.declared.items.PartItem.{PartItem}
 use Rattle.s3_machine.specs.declared.items.UploadItem.{UploadItem}
 use Rattle.s3_machine.specs.declared.operation.Label.{Label}
+use Rattle.s3_machine.specs.declared.operation.Op.{Op}
+use Rattle.s3_machine.specs.declared.operation.Op.TheVariants.{CreateUpload, UploadPart, CompleteUpload}
 use Rattle.s3_machine.specs.declared.operation.Reply.{Reply}
 use Rattle.s3_machine.specs.declared.operation.Reply.TheVariants as reply
 use Rattle.swift_calls.specs.Account.{SwiftAccount}
@@ -17,6 +20,9 @@ use Rattle.account_calls.specs.declared.fault.PlanFault.TheVariants.{Failed, Mem
 use Rattle.account_calls.specs.Answers.{Beside, IsFirstFree, SaysBeside}
 use Rattle.account_calls.specs.Calls.{Met, TellsBucket}
 use Rattle.account_calls.specs.Plan.{reply_of}
+use Rattle.account_calls.specs.declared.state.Known.{Known}
+use Rattle.upload_calls.specs.Records.{StandsOpen, StandsPart}
+use Rattle.plan_uploads.specs.Completing.{ToldOrStands}
 
 -- ---- an upload that is created
 
@@ -49,3 +55,18 @@ gone_behind (Ok done) = Ok reply.Gone
 gone_behind (Err Failed) = Ok reply.Gone
 gone_behind (Err Memory) = Err Memory
 gone_behind (Err Inconsistent) = Err Inconsistent
+
+-- ---- what stands, over every observable store, whether its account is consistent or not
+
+-- the file of the record of an upload that was started so stands
+pub record StandsStarted (bucket key content_type : List ℕ) (meta : List Pair) (moment : ℕ) (tree : SwiftAccount) : Type 0 where
+  pub id : ℕ
+  pub record_stands : StandsOpen bucket id key content_type meta moment tree
+
+-- what an operation that was done leaves where it stands, by what is known of the store then; of one that puts no file nothing is
+-- said
+abbrev pub UploadStands : Op → Label → Known → History → History → SwiftAccount → Type 0
+UploadStands (CreateUpload bucket key acl content_type meta) label known old new tree = StandsStarted bucket key content_type meta label.moment tree
+UploadStands (UploadPart bucket key text number body) label known old new tree = StandsPart bucket text number body label.moment tree
+UploadStands (CompleteUpload bucket key text list) label known old new tree = ToldOrStands known bucket key list label.moment old new tree
+UploadStands _ label known old new tree = Unit {0}

@@ -14,7 +14,8 @@ ghost use Rattle.account_calls.specs.Answers.{named_by, pages};
 ghost use Rattle.account_calls.specs.Calls.{always, by_account, Any, Given, GivenOf};
 ghost use Rattle.account_calls.specs.Lent.{Stays};
 ghost use Rattle.account_calls.specs.Plan.{Plans};
-ghost use Rattle.plan_uploads.specs.Completing.{Ascend, HasParts, IsOpenAs, LeavesUnsureOnly, MayComplete, answered_by, by_number, completion_of, end_in, known_in, listed_parts};
+ghost use Rattle.account_calls.specs.Puts.{EnsuresIfDone};
+ghost use Rattle.plan_uploads.specs.Completing.{Ascend, HasParts, IsOpenAs, LeavesUnsureOnly, MayComplete, StandsAs, StandsCompleted, ToldOrStands, answered_by, by_number, completion_of, end_in, known_in, listed_parts};
 
 use crate::chosen::{chosen_parts, has_small_chosen_part};
 use crate::completed::{Opened, ToComplete, find_upload_to_complete};
@@ -38,7 +39,8 @@ pub(crate) struct Completing {
 /// of the completion into the gateway's own container, which commits, and the calls behind it, which put its sub-manifests, the
 /// object and the record and delete what was sealed. Over an observable consistent account at most six calls more than there are
 /// pages of the upload's segments, and one for each sub-manifest. A completion that is kept is answered again after the first two. The faults are those of the calls up to
-/// the one that commits; that the store failed behind it is no failure of the operation.
+/// the one that commits; that the store failed behind it is no failure of the operation. One that was done otherwise stands then, over
+/// every observable store, consistent or not: its object and its record, or else what is sealed.
 pub(crate) fn complete_upload<W: Swift>(
     alloc: Global,
     state: &mut Settled<'_, W>,
@@ -59,6 +61,9 @@ pub(crate) fn complete_upload<W: Swift>(
         (Given Any) (CompleteUpload bucket.now key.now text.now list.now) label.now
         (known_in result) (end_in result) }
     ensures unsure { LeavesUnsureOnly result }
+    ensures stands { EnsuresIfDone (W.history state.new.store.now)
+        (ToldOrStands (known_in result) bucket.now key.now list.now label.now.moment
+        (W.history state.old.store.now) (W.history state.new.store.now)) (end_in result) }
 {
     match find_upload_to_complete(alloc, state, bucket, key, text, list.as_slice())? {
         ToComplete::NoBucket => Ok(end_complete_upload_refused(Code::NoSuchBucket)),
@@ -116,6 +121,9 @@ fn complete_open<W: Swift>(
         (CompleteUpload bucket.now key.now text list.now) label.now (known_in result)
         (end_in result) }
     ensures unsure { LeavesUnsureOnly result }
+    ensures stands { EnsuresIfDone (W.history state.new.store.now)
+        (StandsCompleted (known_in result) bucket.now key.now list.now label.now.moment)
+        (end_in result) }
 {
     if !rises(list.as_slice()) {
         return Ok(end_complete_upload_refused(Code::InvalidPartOrder));
@@ -156,6 +164,9 @@ fn complete_by<W: Swift>(
         (CompleteUpload bucket.now key.now text list.now) label.now (known_in result)
         (end_in result) }
     ensures unsure { LeavesUnsureOnly result }
+    ensures stands { EnsuresIfDone (W.history state.new.store.now)
+        (StandsCompleted (known_in result) bucket.now key.now list.now label.now.moment)
+        (end_in result) }
 {
     let Some(chosen) = chosen_parts(alloc, parts, list.as_slice())? else {
         return Ok(end_complete_upload_refused(Code::InvalidPart));
@@ -188,6 +199,9 @@ fn complete_chosen<W: Swift>(
         (CompleteUpload bucket.now key.now text list.now) label.now (known_in result)
         (end_in result) }
     ensures unsure { LeavesUnsureOnly result }
+    ensures stands { EnsuresIfDone (W.history state.new.store.now)
+        (StandsCompleted (known_in result) bucket.now key.now list.now label.now.moment)
+        (end_in result) }
 {
     if has_small_chosen_part(state.settings().least_part, chosen.as_slice()) {
         return Ok(end_complete_upload_refused(Code::EntityTooSmall));
@@ -251,6 +265,8 @@ fn complete_sealed<W: Swift>(
         (CompleteUpload sealed.now.bucket sealed.now.key text list) label (known_in result)
         (end_in result) }
     ensures unsure { LeavesUnsureOnly result }
+    ensures stands { EnsuresIfDone (W.history state.new.store.now)
+        (StandsAs (known_in result) sealed.now) (end_in result) }
 {
     if !sealed.has_text() {
         return Err(PlanFault::Inconsistent);

@@ -11,7 +11,8 @@ ghost use Rattle.account_calls.specs.Calls.{always, by_account, Any, Given, Give
 ghost use Rattle.account_calls.specs.Lent.{Stays};
 ghost use Rattle.account_calls.specs.declared.state.Known.TheVariants as known;
 ghost use Rattle.account_calls.specs.Plan.{ended, Plans};
-ghost use Rattle.plan_uploads.specs.Plans.{LeavesBeside, MayStart};
+ghost use Rattle.account_calls.specs.Puts.{EnsuresIfDone};
+ghost use Rattle.plan_uploads.specs.Plans.{LeavesBeside, MayStart, StandsStarted};
 
 use account_calls::{PlanFault, Settled, head_bucket};
 use gate_base::{Bytes, Copying};
@@ -46,6 +47,8 @@ pub(crate) fn create_upload<W: Swift>(
         (Given Any) (CreateUpload bucket key acl content_type meta) label.now known.Settled result }
     ensures beside { LeavesBeside (opens_in bucket) label.now (W.history state.old.store.now)
         (W.history state.new.store.now) (Given Any) result }
+    ensures stands { EnsuresIfDone (W.history state.new.store.now)
+        (StandsStarted bucket key content_type meta label.now.moment) result }
 {
     let Some(list) = head_bucket(state, &bucket)? else {
         return Ok(Reply::Refused(Code::NoSuchBucket));
@@ -87,6 +90,8 @@ fn plan_create_upload_within<W: Swift>(
         (CreateUpload bucket key acl content_type meta) label.now known.Settled result }
     ensures beside { LeavesBeside (opens_in bucket) label.now (W.history state.old.store.now)
         (W.history state.new.store.now) (Given (λ s. TellsBucket bucket s (Some list))) result }
+    ensures stands { EnsuresIfDone (W.history state.new.store.now)
+        (StandsStarted bucket key content_type meta label.now.moment) result }
 {
     if is_other_acl(acl, list) {
         return Ok(Reply::Refused(Code::NotImplemented));
@@ -130,6 +135,8 @@ fn start<W: Swift>(
         (CreateUpload bucket key acl content_type meta) label.now known.Settled result }
     ensures beside { LeavesBeside (opens_in bucket) label.now (W.history state.old.store.now)
         (W.history state.new.store.now) (GivenOf (MayStart bucket list label.now.draw id)) result }
+    ensures stands { EnsuresIfDone (W.history state.new.store.now)
+        (StandsStarted bucket key content_type meta label.now.moment) result }
 {
     let name = key.copy()?;
     end_create_upload_plan(

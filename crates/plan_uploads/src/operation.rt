@@ -1,5 +1,5 @@
 //! The answer to each operation on uploads.
-ghost use Rattle.std.specs.Prelude.{◌≡◌, true};
+ghost use Rattle.std.specs.Prelude.{◌≡◌, true, IsTrue};
 ghost use Rattle.s3_machine.specs.Step.{IsProper};
 ghost use Rattle.swift_calls.specs.History.{present};
 ghost use Rattle.account_calls.specs.Answers.{beside_of, is_upload, most_calls};
@@ -8,7 +8,8 @@ ghost use Rattle.account_calls.specs.Calls.{Any, Given};
 ghost use Rattle.account_calls.specs.Lent.{Stays};
 ghost use Rattle.account_calls.specs.Plan.{reply_of, Plans, Answered};
 ghost use Rattle.plan_uploads.specs.Completing.{end_in, known_in};
-ghost use Rattle.plan_uploads.specs.Plans.{LeavesBeside};
+ghost use Rattle.account_calls.specs.Puts.{EnsuresIfDone, IfDone};
+ghost use Rattle.plan_uploads.specs.Plans.{LeavesBeside, UploadStands};
 
 use crate::abort::abort_upload;
 use crate::complete::{Completing, complete_upload};
@@ -46,6 +47,11 @@ pub fn answer<W: Swift>(alloc: Global, state: &mut Settled<'_, W>, op: Op, label
     ensures answered { Answered (most_calls op (present (W.history state.old.store.now)))
         (W.history state.old.store.now) (W.history state.new.store.now) state.old.settings.now op
         label.now result.known result.reply }
+
+    // What was put stands, over every observable store, consistent or not.
+    ensures stands { IsTrue (W.history state.new.store.now).observable
+        → IfDone result.reply (UploadStands op label.now result.known (W.history state.old.store.now)
+        (W.history state.new.store.now) (present (W.history state.new.store.now))) }
 {
     let mut op = op;
     let replied = answer_upload_operation(alloc, state, &mut op, label);
@@ -65,6 +71,9 @@ fn answer_upload_operation<W: Swift>(
     ensures answered { Answered (most_calls op.old (present (W.history state.old.store.now)))
         (W.history state.old.store.now) (W.history state.new.store.now) state.old.settings.now
         op.old label.now result.known result.reply }
+    ensures stands { IsTrue (W.history state.new.store.now).observable
+        → IfDone result.reply (UploadStands op.old label.now result.known (W.history state.old.store.now)
+        (W.history state.new.store.now) (present (W.history state.new.store.now))) }
 {
     match op {
         Op::CompleteUpload {
@@ -113,6 +122,9 @@ fn plan<W: Swift>(
         (Given Any) op.old label.now known.Settled result }
     ensures beside { LeavesBeside (beside_of op.old) label.now (W.history state.old.store.now)
         (W.history state.new.store.now) (Given Any) result }
+    ensures stands { EnsuresIfDone (W.history state.new.store.now)
+        (UploadStands op.old label.now known.Settled (W.history state.old.store.now)
+        (W.history state.new.store.now)) result }
 {
     match op {
         Op::CreateUpload {
@@ -149,6 +161,9 @@ fn plan_of_open<W: Swift>(
         (Given Any) op.old label.now known.Settled result }
     ensures beside { LeavesBeside (beside_of op.old) label.now (W.history state.old.store.now)
         (W.history state.new.store.now) (Given Any) result }
+    ensures stands { EnsuresIfDone (W.history state.new.store.now)
+        (UploadStands op.old label.now known.Settled (W.history state.old.store.now)
+        (W.history state.new.store.now)) result }
 {
     match op {
         Op::UploadPart {
@@ -186,6 +201,9 @@ fn plan_listing<W: Swift>(
         (Given Any) op.old label.now known.Settled result }
     ensures beside { LeavesBeside (beside_of op.old) label.now (W.history state.old.store.now)
         (W.history state.new.store.now) (Given Any) result }
+    ensures stands { EnsuresIfDone (W.history state.new.store.now)
+        (UploadStands op.old label.now known.Settled (W.history state.old.store.now)
+        (W.history state.new.store.now)) result }
 {
     match op {
         Op::ListUploads {

@@ -11,7 +11,10 @@ ghost use Rattle.account_calls.specs.Calls.{always, Any, Given, GivenOf};
 ghost use Rattle.account_calls.specs.Lent.{Stays};
 ghost use Rattle.account_calls.specs.declared.state.Known.TheVariants as known;
 ghost use Rattle.account_calls.specs.Plan.{ended, Plans};
+ghost use Rattle.account_calls.specs.Puts.{EnsuresIfDone, StandsIn};
 ghost use Rattle.upload_calls.specs.Found.{IsOpenUpload};
+ghost use Rattle.upload_calls.specs.Interpret.{put_part_of};
+ghost use Rattle.upload_calls.specs.Records.{StandsPart};
 
 use account_calls::{PlanFault, Settled};
 use gate_base::Bytes;
@@ -21,7 +24,8 @@ use swift_calls::Swift;
 use upload_calls::{Found, find_upload, put_part};
 
 /// UploadPart: HEAD of the bucket's container, GET of the upload's record, then PUT of the part's file, which commits. At most
-/// three calls. The reply is made before the PUT, so that no memory is needed after it. The faults are those of the calls.
+/// three calls. The reply is made before the PUT, so that no memory is needed after it. The faults are those of the calls. Where the
+/// reply is no refusal the part's file stands, over every observable store, consistent or not.
 pub(crate) fn upload_part<W: Swift>(
     alloc: Global,
     state: &mut Settled<'_, W>,
@@ -40,6 +44,8 @@ pub(crate) fn upload_part<W: Swift>(
     ensures plans { Plans (always 3) (W.history state.old.store.now) (W.history state.new.store.now)
         state.old.settings.now (Given Any) (UploadPart bucket.now key.now text.now number body)
         label.now known.Settled result }
+    ensures stands { EnsuresIfDone (W.history state.new.store.now)
+        (StandsPart bucket.now text.now number body label.now.moment) result }
 {
     match find_upload(alloc, state, bucket, key, text)? {
         Found::NoBucket => Ok(Reply::Refused(Code::NoSuchBucket)),
@@ -67,6 +73,8 @@ fn part_into<W: Swift>(
         → Plans (always 1) (W.history state.old.store.now) (W.history state.new.store.now)
         state.old.settings.now (GivenOf (IsOpenUpload bucket.now key text id))
         (UploadPart bucket.now key text number body) label.now known.Settled result }
+    ensures stands { EnsuresIfDone (W.history state.new.store.now)
+        (λ tree. StandsIn tree (put_part_of bucket.now id number body label.now.moment)) result }
 {
     let etag = body.etag();
     plan_upload_part_bytes(
@@ -102,6 +110,8 @@ fn plan_upload_part_bytes<W: Swift>(
         → Plans (always 1) (W.history state.old.store.now) (W.history state.new.store.now)
         state.old.settings.now (GivenOf (IsOpenUpload bucket.now key text id))
         (UploadPart bucket.now key text number body) label.now known.Settled result }
+    ensures stands { EnsuresIfDone (W.history state.new.store.now)
+        (λ tree. StandsIn tree (put_part_of bucket.now id number body label.now.moment)) result }
 {
     let text = Bytes::from_slice(alloc, etag)?;
     end_upload_part_plan(

@@ -1,15 +1,16 @@
 //! The call that seals a completion, and those behind it.
-ghost use Rattle.std.specs.Prelude.{◌≡◌, ◌≤◌, ◌+◌, ℕ, true, List, length, IfOk, Ok};
+ghost use Rattle.std.specs.Prelude.{◌≡◌, ◌≤◌, ◌+◌, ℕ, true, List, length, IfOk, Ok, Some};
 ghost use Rattle.s3_machine.specs.declared.operation.Label.{Label};
 ghost use Rattle.s3_machine.specs.declared.operation.Listed.{Listed};
 ghost use Rattle.s3_machine.specs.declared.operation.Op.TheVariants.{CompleteUpload};
 ghost use Rattle.swift_calls.specs.Step.{Fit};
 ghost use Rattle.upload_texts.specs.Sealed.{has_sealed_text};
-ghost use Rattle.upload_records.specs.Native.{sealed_sub_manifests};
-ghost use Rattle.account_calls.specs.Calls.{always, GivenOf};
+ghost use Rattle.upload_records.specs.Native.{seal_of, sealed_sub_manifests};
+ghost use Rattle.account_calls.specs.Calls.{always, GivenOf, Met};
 ghost use Rattle.account_calls.specs.Lent.{Stays};
 ghost use Rattle.account_calls.specs.Plan.{Plans};
-ghost use Rattle.plan_uploads.specs.Completing.{CompletesBy, LeavesUnsureOnly, Seals, end_complete_upload_sealed, most_sealed_text, put_sealed_text};
+ghost use Rattle.account_calls.specs.Puts.{Ensures, EnsuresIfDone};
+ghost use Rattle.plan_uploads.specs.Completing.{CompletesBy, EndsQuietly, LeavesUnsureOnly, MaySeal, Seals, StandsAs, end_complete_upload_sealed, most_sealed_text, put_sealed_text};
 
 use crate::complete::Completing;
 use account_calls::{Known, PlanFault, Settled, interpret_put_with_etag};
@@ -23,7 +24,8 @@ use upload_texts::Sealed;
 
 /// Seals a completion, by PUT of its text into the gateway's own container (Object Storage API v1, "Create or replace object"):
 /// the one call that commits. At most one call. After Ok the completion is finished in the S3 state, though its object isn't put
-/// yet. After Failed, which comes only where the store's count of faults rose, and after Memory the state is the old one or that.
+/// yet, and over every observable store, consistent or not, what is sealed is this. After Failed, which comes only where the store's
+/// count of faults rose, and after Memory the state is the old one or that.
 /// Inconsistent never comes over an observable consistent account on which nothing is sealed and the completion's parts are there.
 pub(crate) fn seal<W: Swift>(
     alloc: Global,
@@ -34,6 +36,8 @@ pub(crate) fn seal<W: Swift>(
     ensures stays { Stays state.old state.new }
     ensures seals { Seals (W.history state.old.store.now) (W.history state.new.store.now) sealed.now
         result }
+    ensures stands { Ensures (W.history state.new.store.now)
+        (λ tree. seal_of tree ≡ Some sealed.now) result }
 {
     law_completion_sealed();
     let text = sealed.write(alloc)?;
@@ -81,6 +85,11 @@ pub(crate) fn seal_and_finish<W: Swift>(
         (GivenOf (CompletesBy state.old.settings.now text list label sealed.now))
         (CompleteUpload sealed.now.bucket sealed.now.key text list) label result.known result.end }
     ensures unsure { LeavesUnsureOnly (Ok result) }
+    ensures stands { EnsuresIfDone (W.history state.new.store.now)
+        (StandsAs result.known sealed.now) result.end }
+    ensures last { Met (GivenOf (MaySeal sealed.now)) (W.history state.old.store.now)
+        → IfOk result.end (λ reply. EndsQuietly (W.history state.new.store.now)
+        (W.history state.old.store.now).called (W.history state.new.store.now).called) }
 {
     match seal(alloc, state, sealed) {
         Ok(()) => end_complete_upload_sealed(roll_forward_held(alloc, state, sealed), reply),

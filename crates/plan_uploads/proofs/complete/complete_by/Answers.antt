@@ -1,7 +1,9 @@
-use Rattle.std.proofs.Common.{arith, rules, None, Some}
+use Rattle.std.proofs.Common.{ap, arith, rules, None, Some}
 use Rattle.s3_machine.specs.declared.code.Code.TheVariants.{InvalidPart}
 use Rattle.plan_uploads.proofs.CompletionCalls.{lacks_memory, refused_at_once}
 use Rattle.plan_uploads.proofs.Completions.{invalid_part, listed_as}
+use Rattle.plan_uploads.specs.declared.complete.Completing.{Completing}
+use Rattle.plan_uploads.proofs.CompletionEnds.{refused_ensures}
 use Rattle.plan_uploads.proofs.complete.complete_by.Goals as goal
 
 pub returns-in_err-chosen-clause-plans : goal.returns-in_err-chosen-clause-plans
@@ -17,3 +19,6 @@ returns-in_default-clause-plans g c = λ text.
 pub returns-clause-plans : goal.returns-clause-plans
 returns-clause-plans g c = λ text.
     c.complete_chosen.ensures.plans text c.args.parts.now (listed_as c.args.parts.now c.as_slice.ensures c.in_ok-chosen.ensures.listed (Some c.in-Some.chosen) c.in-Some.is)
+
+pub returns-in_default-clause-stands : goal.returns-in_default-clause-stands
+returns-in_default-clause-stands g c = refused_ensures InvalidPart _ (ap (λ (x : Completing). x.end) c.end_complete_upload_refused.ensures)

@@ -4,6 +4,10 @@ use Rattle.upload_records.specs.Native.{sealed_sub_manifests}
 use Rattle.s3_machine.specs.declared.code.Code.TheVariants.{EntityTooSmall}
 use Rattle.plan_uploads.proofs.CompletionCalls.{goes_on_sound, lacks_memory, refused_at_once, seals_same}
 use Rattle.plan_uploads.proofs.Completions.{few_subs, may_complete, small_as, too_small}
+use Rattle.account_calls.proofs.lemmas.Puts.{ensures_less}
+use Rattle.plan_uploads.specs.Completing.{StandsAs, known_in}
+use Rattle.plan_uploads.specs.declared.complete.Completing.{Completing}
+use Rattle.plan_uploads.proofs.CompletionEnds.{refused_ensures}
 use Rattle.plan_uploads.proofs.complete.complete_chosen.Goals as goal
 
 pub returns-then-has_small_chosen_part-clause-plans : goal.returns-then-has_small_chosen_part-clause-plans
@@ -25,3 +29,11 @@ returns-clause-plans g c = λ text parts lists.
     c.args.chosen lists (small_as c.settings.ensures c.as_slice.ensures c.has_small_chosen_part.ensures false c.if-has_small_chosen_part.false)
     c.requires.place c.requires.list c.requires.moment fits)
     (seals_same text c.args.list.now c.args.label.now _ _ c.in_ok-sealed.ensures.sealed (c.complete_sealed-completing.ensures.plans text c.args.list.now c.args.label.now))
+
+pub returns-then-has_small_chosen_part-clause-stands : goal.returns-then-has_small_chosen_part-clause-stands
+returns-then-has_small_chosen_part-clause-stands g c = refused_ensures EntityTooSmall _ (ap (λ (x : Completing). x.end) c.end_complete_upload_refused.ensures)
+
+pub returns-clause-stands : goal.returns-clause-stands
+returns-clause-stands g c =
+    ensures_less (λ tree stands. record { opened = c.args.opened; chosen = c.args.chosen; stands = subst (λ s. StandsAs (known_in c.complete_sealed-completing.result) s tree) c.in_ok-sealed.ensures.sealed stands }) _
+    c.complete_sealed-completing.ensures.stands

@@ -9,6 +9,8 @@ use Rattle.account_calls.proofs.lemmas.Ends.{goes_on_from, met_within}
 use Rattle.plan_uploads.proofs.CompletionCalls.{asked_nothing, refused_at_once}
 use Rattle.plan_uploads.proofs.CompletionSteps.{order_refused}
 use Rattle.plan_uploads.proofs.Completions.{has_parts, opened_parts}
+use Rattle.plan_uploads.specs.declared.complete.Completing.{Completing}
+use Rattle.plan_uploads.proofs.CompletionEnds.{refused_ensures}
 use Rattle.plan_uploads.proofs.complete.complete_open.Goals as goal
 
 pub returns-then-not-rises-clause-plans : goal.returns-then-not-rises-clause-plans
@@ -29,3 +31,6 @@ returns-clause-plans g c = λ text.
     goes_on_from (met_within (opened_parts c.requires.place.named)) c.list_parts.ensures.stays.settings c.in_ok-parts.ensures.asks (c.complete_by.ensures.plans text)
     (λ opens tells. has_parts c.as_slice-2.ensures opens tells)
     (λ x. omega arith)
+
+pub returns-then-not-rises-clause-stands : goal.returns-then-not-rises-clause-stands
+returns-then-not-rises-clause-stands g c = refused_ensures InvalidPartOrder _ (ap (λ (x : Completing). x.end) c.end_complete_upload_refused.ensures)

@@ -1,11 +1,14 @@
-use Rattle.std.proofs.Common.{refl, ap, subst, arith, rules}
+use Rattle.std.proofs.Common.{refl, ap, subst, inl, inr, arith, rules}
 use Rattle.account_calls.specs.Answers.{pages}
 use Rattle.account_calls.specs.Calls.{always}
 use Rattle.account_calls.proofs.lemmas.Ends.{met_settled, goes_on_from}
 use Rattle.upload_calls.proofs.lemmas.Asking.{after_told_of, asked_in_vain, asked_reply}
 use Rattle.plan_uploads.specs.Completing.{IsCompleted, LacksCompletion}
 use Rattle.plan_uploads.specs.declared.completed.ToComplete.TheVariants.{NoBucket, NoUpload, Again, Open}
-use Rattle.plan_uploads.proofs.CompletionEnds.{asked_out_of_memory, ends_answered, ends_with_fault}
+use Rattle.account_calls.proofs.lemmas.Puts.{ensures_less}
+use Rattle.s3_machine.specs.declared.code.Code.TheVariants.{NoSuchBucket, NoSuchUpload}
+use Rattle.plan_uploads.specs.declared.complete.Completing.{Completing}
+use Rattle.plan_uploads.proofs.CompletionEnds.{again_ensures, asked_out_of_memory, ends_answered, ends_with_fault, refused_ensures}
 use Rattle.plan_uploads.proofs.FoundCompletion.{complete_lost, complete_missing, completed_again, named_alike}
 use Rattle.plan_uploads.proofs.complete.complete_upload.Goals as goal
 
@@ -40,3 +43,16 @@ returns-in-Open-clause-plans g c =
     goes_on_from met_settled c.find_upload_to_complete.ensures.stays.settings c.in_ok-find_upload_to_complete.ensures.asks (c.complete_open.ensures.plans c.args.text.now)
     (λ any tells. after_told_of (Open c.in-Open.opened) c.in-Open.is tells)
     (λ x. let same = named_alike c.in-Open.is x.1 in let paged = ap pages same in omega (arith, same, paged))
+
+pub returns-in-NoBucket-clause-stands : goal.returns-in-NoBucket-clause-stands
+returns-in-NoBucket-clause-stands g c = refused_ensures NoSuchBucket _ (ap (λ (x : Completing). x.end) c.end_complete_upload_refused.ensures)
+
+pub returns-in-NoUpload-clause-stands : goal.returns-in-NoUpload-clause-stands
+returns-in-NoUpload-clause-stands g c = refused_ensures NoSuchUpload _ (ap (λ (x : Completing). x.end) c.end_complete_upload_refused-in-NoUpload.ensures)
+
+pub returns-in_ok-end_complete_upload_again-in-Again-clause-stands : goal.returns-in_ok-end_complete_upload_again-in-Again-clause-stands
+returns-in_ok-end_complete_upload_again-in-Again-clause-stands g c =
+    again_ensures _ _ (ap (λ (x : Completing). x.end) c.in_ok-end_complete_upload_again-in-Again.ensures) (inl c.in_ok-find_upload_to_complete.ensures.asks.grows.calls)
+
+pub returns-in-Open-clause-stands : goal.returns-in-Open-clause-stands
+returns-in-Open-clause-stands g c = ensures_less (λ tree stands. inr stands) _ c.complete_open.ensures.stands

@@ -1,6 +1,8 @@
 use Rattle.std.proofs.Common.{sym, subst, lit≤, rules}
 use Rattle.account_calls.specs.Plan.{Plans}
 use Rattle.account_calls.proofs.lemmas.Ends.{out_of_memory, commits, becomes}
+use Rattle.account_calls.specs.Puts.{EnsuresIfDone}
+use Rattle.account_calls.proofs.lemmas.Puts.{ensures_ended, ensures_less}
 use Rattle.plan_uploads.proofs.Beside.{beside_none}
 use Rattle.plan_uploads.proofs.Creating.{may_open, new_id, opens_first}
 use Rattle.plan_uploads.proofs.Steps.{created, it}
@@ -20,3 +22,8 @@ returns-clause-plans g c =
 
 pub returns-clause-beside : goal.returns-clause-beside
 returns-clause-beside g c = opens_first c.in_ok-name.name c.args.content_type c.args.meta c.args.label.now.moment c.put_record.ensures.changes _
+
+pub returns-clause-stands : goal.returns-clause-stands
+returns-clause-stands g c =
+    subst (EnsuresIfDone _ _) (sym c.end_create_upload_plan.ensures)
+    (ensures_less (λ tree stands. record { id = c.args.id; record_stands = stands }) _ (ensures_ended _ _ (rw c.in_ok-name.ensures at c.put_record.ensures.stands)))

@@ -1,5 +1,6 @@
 use Rattle.std.proofs.Common.{sym, subst}
 use Rattle.account_calls.specs.Plan.{Answered}
+use Rattle.account_calls.proofs.lemmas.Puts.{ensures_reply}
 use Rattle.plan_uploads.proofs.Answering.{answered_alike, answered_as, answered_with}
 use Rattle.plan_uploads.proofs.operation.answer_upload_operation.Goals as goal
 
@@ -9,3 +10,9 @@ returns-in-CompleteUpload-clause-answered g c = rw c.in-CompleteUpload.is
 
 pub returns-in_default-clause-answered : goal.returns-in_default-clause-answered
 returns-in_default-clause-answered g c = subst (Answered _ _ _ _ _ _ _) (sym c.reply_of.ensures) (answered_with c.plan.ensures.beside c.plan.ensures.plans)
+
+pub returns-in-CompleteUpload-clause-stands : goal.returns-in-CompleteUpload-clause-stands
+returns-in-CompleteUpload-clause-stands g c = rw (c.in-CompleteUpload.is, c.completed.ensures.known, c.completed.ensures.reply) (ensures_reply _ c.complete_upload.ensures.stands)
+
+pub returns-in_default-clause-stands : goal.returns-in_default-clause-stands
+returns-in_default-clause-stands g c = rw c.reply_of.ensures (ensures_reply _ c.plan.ensures.stands)

@@ -3,6 +3,7 @@ use Rattle.std.proofs.Common.{refl}
 use Rattle.account_calls.specs.declared.fault.PlanFault.TheVariants.{Memory}
 use Rattle.account_calls.proofs.lemmas.Ends.{out_of_memory}
 use Rattle.plan_uploads.proofs.Beside.{beside_none}
+use Rattle.account_calls.proofs.lemmas.Puts.{ensures_nothing}
 use Rattle.plan_uploads.proofs.operation.plan_listing.Goals as goal
 
 pub returns-in-ListUploads-clause-plans : goal.returns-in-ListUploads-clause-plans
@@ -13,4 +14,10 @@ pub returns-in-ListParts-clause-plans : goal.returns-in-ListParts-clause-plans
 returns-in-ListParts-clause-plans g c = rw c.in-ListParts.is (rw (c.taken_text-in-ListParts.ensures, c.taken_text-in-ListParts-2.ensures) at (c.plan_list_parts.ensures.plans c.args.label.now))
 
 pub returns-in_default : goal.returns-in_default
-returns-in_default g c = record { stays = record { store = refl; settings = refl }; plans = out_of_memory _ (Err Memory) refl; beside = beside_none _ _ _ _ (Err Memory) refl }
+returns-in_default g c = record { stays = record { store = refl; settings = refl }; plans = out_of_memory _ (Err Memory) refl; beside = beside_none _ _ _ _ (Err Memory) refl; stands = record { so = λ observable. tt } }
+
+pub returns-in-ListUploads-clause-stands : goal.returns-in-ListUploads-clause-stands
+returns-in-ListUploads-clause-stands g c = rw c.in-ListUploads.is (ensures_nothing _)
+
+pub returns-in-ListParts-clause-stands : goal.returns-in-ListParts-clause-stands
+returns-in-ListParts-clause-stands g c = rw c.in-ListParts.is (ensures_nothing _)

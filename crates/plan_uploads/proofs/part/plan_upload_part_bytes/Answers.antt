@@ -1,6 +1,8 @@
 use Rattle.std.proofs.Common.{sym, subst, ◌∙◌, lit≤, rules}
 use Rattle.account_calls.specs.Plan.{Plans}
 use Rattle.account_calls.proofs.lemmas.Ends.{out_of_memory, commits, becomes}
+use Rattle.account_calls.proofs.lemmas.Puts.{ensures_ended}
+use Rattle.account_calls.specs.Puts.{EnsuresIfDone}
 use Rattle.upload_calls.proofs.lemmas.Opened.{has_open}
 use Rattle.plan_uploads.proofs.Steps.{part_stored}
 use Rattle.plan_uploads.proofs.part.plan_upload_part_bytes.Goals as goal
@@ -13,3 +15,6 @@ returns-clause-plans g c = λ key text.
     subst (Plans _ _ _ _ _ _ _ _) (sym c.end_upload_part_plan.ensures)
     (commits _ (lit≤ tt) c.put_part.ensures.changes (λ done. search rules) (λ tree found. has_open found)
     (λ tree done new found is. becomes (part_stored _ _ _ _ _ tree c.requires.name c.args.id found _ _ _ (c.in_ok-text.ensures ∙ c.requires.etag)) is))
+
+pub returns-clause-stands : goal.returns-clause-stands
+returns-clause-stands g c = subst (EnsuresIfDone _ _) (sym c.end_upload_part_plan.ensures) (ensures_ended _ _ c.put_part.ensures.stands)

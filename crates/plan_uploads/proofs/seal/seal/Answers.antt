@@ -4,7 +4,7 @@ use Rattle.account_calls.specs.Interpret.{stored_due}
 use Rattle.s3_machine.specs.ETag.{body_etag}
 use Rattle.upload_records.proofs.lemmas.TextLengths.{sealed_short}
 use Rattle.plan_uploads.specs.Completing.{most_sealed_text}
-use Rattle.plan_uploads.proofs.SealCalls.{not_sealed, sealed_in_vain, seals_by}
+use Rattle.plan_uploads.proofs.SealCalls.{not_sealed, seal_stands, sealed_in_vain, seals_by}
 use Rattle.plan_uploads.proofs.seal.seal.Goals as goal
 
 pub returns-in_err-text-clause-seals : goal.returns-in_err-text-clause-seals
@@ -32,3 +32,6 @@ returns-clause-seals g c =
       short = subst (λ text. length text ≤ most_sealed_text) (sym c.in_ok-text.ensures.text) (sealed_short c.args.sealed.now c.requires);
     }) c.in_ok-reply.ensures.calls _
     (c.interpret_put_with_etag.ensures.due ∙ ap (λ etag. stored_due etag c.in_ok-reply.reply) (c.body_etag-etag.ensures ∙ ap body_etag c.as_slice.ensures)) c.interpret_put_with_etag.ensures.own
+
+pub returns-clause-stands : goal.returns-clause-stands
+returns-clause-stands g c = seal_stands _ c.in_ok-request.ensures.request c.in_ok-text.ensures.reads_back c.in_ok-reply.ensures.calls _ c.interpret_put_with_etag.ensures.due

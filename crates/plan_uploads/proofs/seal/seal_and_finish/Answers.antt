@@ -1,4 +1,4 @@
-use Rattle.plan_uploads.proofs.Finishing.{finished_then, seal_fails}
+use Rattle.plan_uploads.proofs.Finishing.{ends_quietly, finished_then, seal_fails, stands_then}
 use Rattle.plan_uploads.proofs.seal.seal_and_finish.Goals as goal
 
 pub returns-in-Ok-clause-plans : goal.returns-in-Ok-clause-plans
@@ -8,3 +8,10 @@ returns-in-Ok-clause-plans g c = λ text list label.
 
 pub returns-in-Err-clause-plans : goal.returns-in-Err-clause-plans
 returns-in-Err-clause-plans g c = λ text list label. seal_fails c.args.state.now.settings.now c.args.sealed.now text list label c.in-Err.fault c.in-Err.ensures.seals
+
+pub returns-in-Ok-clause-stands : goal.returns-in-Ok-clause-stands
+returns-in-Ok-clause-stands g c =
+    stands_then _ _ c.end_complete_upload_sealed.ensures c.roll_forward_held.ensures.asks c.roll_forward_held.ensures.finishes c.in-Ok.ensures.stands.so c.roll_forward_held.ensures.rolls
+
+pub returns-in-Ok-clause-last : goal.returns-in-Ok-clause-last
+returns-in-Ok-clause-last g c = ends_quietly _ _ c.end_complete_upload_sealed.ensures c.in-Ok.ensures.seals c.roll_forward_held.ensures.asks
