@@ -2,18 +2,13 @@
 """Writes cases of object listings by chance, each walked to its end in its version, with the whole reply to each page.
 
     bench/listing-cases.py > crates/cases/data/listings-chance.txt
-    bench/listing-cases.py jumps > crates/cases/data/listings-jumps.txt
 
 The keys, prefixes, delimiters and markers come from a generator with a fixed seed, and the replies from the small model below,
 which knows only what this profile says of listings (docs/PROFILE.md): keys roll up first, then the marker is looked at, then
 the greatest number. Nothing is taken from the program. The requests are signed as bench/sign-cases.py signs them.
-
-With the argument `jumps` it writes listings of thousands of keys under one common prefix, with the number of calls that each
-makes: HEAD of the bucket, and the pages of 1000 names that a listing asks for which goes on behind a common prefix.
 """
 import hashlib
 import random
-import sys
 from urllib.parse import quote
 
 from case_signing import load_signing
@@ -161,78 +156,6 @@ def setup(chance, bucket, objects):
     return lines + ["= served", ""]
 
 
-def past(name, asked):
-    """Where a listing goes on behind a name: behind all keys of the common prefix that it rolls up into."""
-    place = name.find(asked.delimiter, len(asked.prefix)) if asked.delimiter and name.startswith(asked.prefix) else -1
-    if place < 0:
-        return name.encode()
-    common = name[: place + len(asked.delimiter)].encode()
-    return common + "\U0010ffff".encode() * ((1024 - len(common)) // 4 + 1)
-
-
-def pages_of(keys, asked, marker):
-    """How many pages of names are asked for, until the answer is full or a page is short."""
-    named = [key for key in keys if key.startswith(asked.prefix)]
-    most = min(1000 if asked.max is None else asked.max, 1000)
-    behind, pages, shown = past(marker, asked), 0, []
-    while most > 0:
-        page = [key for key in named if key.encode() > behind][:1000]
-        pages += 1
-        for key in page:
-            place = key.find(asked.delimiter, len(asked.prefix)) if asked.delimiter else -1
-            text = key if place < 0 else key[: place + len(asked.delimiter)]
-            if text.encode() > marker.encode() and text not in shown:
-                shown.append(text)
-        if len(shown) > most or len(page) < 1000:
-            break
-        behind = past(page[-1], asked)
-    return pages
-
-
-class Listed(Asked):
-    """What a listing of those asks for."""
-
-    def __init__(self, version, delimiter, start, most):
-        self.version, self.prefix, self.delimiter, self.start, self.max = version, "", delimiter, start, most
-        self.url, self.owner = False, None
-
-
-def jump_case(name, bucket, objects, asked):
-    """A walk, with the number of calls that each of its requests ends at; the first settles the store by two."""
-    keys = sorted(objects, key=str.encode)
-    given, wanted, calls, marker, token, turn = [], [], 2, asked.start, None, 0
-    while True:
-        items, more = items_of(keys, asked, marker)
-        data = body_of(bucket, objects, asked, marker, token, items, more)
-        calls += 1 + pages_of(keys, asked, marker)
-        given += [f"> GET {asked.target(bucket, marker, token)} HTTP/1.1", ">~", ">"]
-        wanted += [f"= piece 1 {calls}", "= < HTTP/1.1 200 OK", "= < Date: Fri, 24 May 2013 00:00:00 GMT", f"= < x-amz-request-id: {2 * turn + 1:032x}", "= < Content-Type: application/xml"]
-        first, _, rest = data.partition("\n")
-        wanted += [f"= < Content-Length: {len(data.encode())}", "= <", f"= <n {first}", f"= <. {rest}"]
-        if not more:
-            return [f"case {name}", "pieces 1000", "nomodel", "connection", *given, "= status 0", *wanted, ""]
-        marker, turn = items[-1][0], turn + 1
-        token = marker.encode().hex()
-
-
-def jumps():
-    """2,500 keys under `a/`, which no request put and which have no tag: a listing that shows one of them is refused."""
-    shown = {"a": b"1", "a0": b"22", "b": b"333"}
-    hidden = ["a/", "a/\U0010ffff", "a/" + "\U0010ffff" * 255] + [f"a/{n:04}" for n in range(2500)]
-    objects = {**shown, **{key: b"" for key in hidden}}
-    lines = ["# Listings that go on behind a common prefix: written by bench/listing-cases.py, which says where the replies and the numbers of", "# calls come from.", ""]
-    made = setup(random.Random(1), "photos", shown)
-    lines += made[:-2] + [f"file photos {key} -" for key in hidden] + made[-2:]
-    lines += jump_case("thousands of keys under a common prefix, and its next sibling", "photos", objects, Listed(1, "/", "", None))
-    lines += jump_case("a walk by tokens, of one item a page, over thousands of keys", "photos", objects, Listed(2, "/", "", 1))
-    lines += jump_case("a listing that starts inside a common prefix", "photos", objects, Listed(2, "/", "a/1234", 2))
-    lines += jump_case("a listing that starts at a common prefix", "photos", objects, Listed(1, "/", "a/", None))
-    lines += jump_case("a listing that starts behind the last key under a common prefix", "photos", objects, Listed(1, "/", "a/" + "\U0010ffff" * 255, None))
-    lines += jump_case("a delimiter of two bytes", "photos", objects, Listed(1, "a/", "", None))
-    lines += jump_case("nothing is asked for", "photos", objects, Listed(1, "/", "", 0))
-    print("\n".join(load_signing().signed(lines)), end="")
-
-
 def main():
     chance = random.Random(1)
     lines = ["# Listings by chance: written by bench/listing-cases.py, which says where the replies come from.", ""]
@@ -246,4 +169,4 @@ def main():
     print("\n".join(load_signing().signed(lines)), end="")
 
 
-jumps() if sys.argv[1:] == ["jumps"] else main()
+main()

@@ -22,11 +22,12 @@ times_past bytes = cond (nat_lt MOST_KEY_BYTES bytes) 0 ((MOST_KEY_BYTES - bytes
 abbrev pub past_all : List ℕ → List ℕ
 past_all text = text ++ greatest_times (times_past (length text))
 
--- where a listing goes on behind a name, by what it rolls up into behind the prefix
+-- the text after which the next page of names is asked for, behind a name with the prefix, by what it rolls up into there
 abbrev pub marker_by : List ℕ → List ℕ → Option (List ℕ) → List ℕ
 marker_by prefix name None = name
 marker_by prefix name (Some text) = past_all (prefix ++ text)
 
+-- and behind any name
 abbrev pub next_marker : List ℕ → List ℕ → List ℕ → List ℕ
 next_marker prefix delimiter name = cond (begins prefix name) (marker_by prefix name (roll_by delimiter (drop (length prefix) name))) name
 

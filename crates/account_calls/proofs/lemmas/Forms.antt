@@ -1,9 +1,12 @@
 -- What the file of an object says of it, by either form: put in one piece, or completed from parts.
-use Rattle.std.specs.Prelude.{◌≡◌, ◌==◌, ◌||◌, ◌<◌, ◌^◌, ◌++◌, ℕ, true, sum_by, List, [], ◌∷◌, length, None, Some}
+use Rattle.std.specs.Prelude.{◌≡◌, ◌==◌, ◌&&◌, ◌||◌, ◌<◌, ◌^◌, ◌++◌, ℕ, true, cond, nat_eq, bytes_eq, sum_by, List, [], ◌∷◌, length, None, Some}
+use Rattle.std.specs.Option.{option_and_then}
+use Rattle.std.specs.FinMap.{get}
 use Rattle.std.proofs.Common.{refl, ap, ◌∙◌, arith}
-use Rattle.std.proofs.lemmas.Bool.{and_from, le-leb, lt-ltb}
+use Rattle.std.proofs.lemmas.Bool.{and_from, eq-eqb, le-leb, lt-ltb}
 use Rattle.std.proofs.lemmas.List.{length-append}
 use Rattle.std.proofs.lemmas.List.Sums.{sum_by-cons}
+use Rattle.std.proofs.lemmas.Slice.Eq.{bytes_eq-Decides}
 use Rattle.gate_base.specs.Maps.{Names}
 use Rattle.gate_base.specs.declared.page.Pair.{Pair}
 use Rattle.s3_names.specs.Id.{id_digits}
@@ -16,6 +19,7 @@ use Rattle.swift_calls.specs.Account.{SwiftObject, size_of}
 use Rattle.swift_calls.specs.Bodies.{Look, outer_bytes, joined_two, joined, bytes_of, is_list}
 use Rattle.swift_calls.specs.Bodies as bodies
 use Rattle.swift_calls.specs.declared.account.Content.{Content}
+use Rattle.swift_calls.specs.declared.account.Content.TheVariants.{Plain}
 use Rattle.swift_marks.specs.declared.tag.Tag.{Tag}
 use Rattle.swift_marks.specs.Tag.{read_tag}
 use Rattle.swift_marks.specs.Pack.{unpacked}

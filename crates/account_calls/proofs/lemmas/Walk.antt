@@ -19,6 +19,7 @@ use Rattle.account_calls.specs.declared.fault.PlanFault.TheVariants.{Failed, Mem
 use Rattle.account_calls.specs.Answers.{pages}
 use Rattle.account_calls.specs.Fault.{CausesFault}
 use Rattle.account_calls.specs.Listing.{after, TellsOf, TellsNames, TellsNext, MayListAfter}
+use Rattle.account_calls.specs.Stutters.{Stutters}
 use Rattle.account_calls.specs.Told.{Idles}
 use Rattle.account_calls.specs.Calls.{always, by_account, GoesOn, Met, Keeps, Asks}
 use Rattle.account_calls.proofs.lemmas.Agree.{quiet_agree, quiet_trans, failed_after}
