@@ -1,4 +1,5 @@
 pub mod CopiedPart
+pub mod CopiesStand
 pub mod CopyPlans
 pub mod CopySteps
 pub mod Copying

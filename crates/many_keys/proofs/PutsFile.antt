@@ -17,7 +17,7 @@ use Rattle.s3_machine.specs.declared.operation.Replaced.{Replaced}
 use Rattle.s3_machine.specs.declared.operation.Reply.TheVariants.{Copied}
 use Rattle.s3_machine.specs.declared.operation.Settings.{Settings}
 use Rattle.swift_calls.specs.Account.{SwiftContainer, SwiftAccount, files, find_object, put_file}
-use Rattle.swift_calls.specs.Bodies.{is_good_list}
+use Rattle.swift_calls.specs.Bodies.{etag_of, is_good_list}
 use Rattle.swift_calls.specs.Step.{Answer, put_object, swift_step}
 use Rattle.swift_calls.specs.declared.calls.SwiftRequest.{SwiftRequest}
 use Rattle.swift_marks.specs.Pack.{pack_of}
@@ -31,10 +31,13 @@ use Rattle.upload_records.proofs.lemmas.Objects.{file_puts}
 use Rattle.upload_records.proofs.lemmas.Rolling.{completed_stands, listing_stands}
 use Rattle.upload_records.proofs.lemmas.Subs.{no_sub_manifests}
 use Rattle.upload_records.proofs.lemmas.Settled.{same_off, settled_same, unsealed_of}
-use Rattle.account_calls.specs.Sealed.{kept_due, put_object_of, sealed_listing}
+use Rattle.account_calls.specs.Interpret.{stored_due}
+use Rattle.account_calls.specs.Puts.{etag_put}
+use Rattle.account_calls.specs.Sealed.{put_object_of, sealed_listing}
 use Rattle.account_calls.proofs.lemmas.Fits.{has_a_pack}
 use Rattle.account_calls.proofs.lemmas.ListPut.{by_stays, put_step}
 use Rattle.account_calls.proofs.lemmas.One.{Effect, IsWritingOf}
+use Rattle.account_calls.proofs.lemmas.Puts.{by_etag, due_of}
 use Rattle.account_calls.proofs.lemmas.SealStands.{all_counted, some_parts, takes_listing}
 use Rattle.many_keys.specs.CopiedLists.{CopiesObject, HasCopy, IsCopy, MayPut}
 use Rattle.many_keys.proofs.CopySteps.{of_source}
@@ -87,10 +90,11 @@ module _ (from_bucket from_key : List ℕ) (replaced : Option Replaced) (s : Sea
     answered : swift_step (put_object_of s) tree ≡ put_object (Some folder.0) s.bucket s.key (completed_file s) tree
     answered = put_step tree s.bucket s.key (tag_text (sealed_tag s)) (pack_of s.meta) (sealed_listing s) folder.0 folder.1 takes_list
 
-    put_effect : Effect tree (put_object_of s) kept_due (CopiesObject s.bucket s.key from_bucket from_key replaced s.moment)
+    put_effect : Effect tree (put_object_of s) (stored_due (etag_put (put_object_of s))) (CopiesObject s.bucket s.key from_bucket from_key replaced s.moment)
     put_effect = record {
       answer = tt;
-      says = ap (λ (a : Answer). kept_due a.reply) answered;
+      says = ap (λ (a : Answer). stored_due (etag_put (put_object_of s)) a.reply) answered
+          ∙ due_of (etag_of (completed_file s).content) (etag_put (put_object_of s)) (by_etag s.bucket s.key (tag_text (sealed_tag s)) (pack_of s.meta) (sealed_listing s));
       after = subst IsConsistent (sym (ap (λ (a : Answer). a.tree) answered)) puts.sound;
       state = record {
         object = has.object;
@@ -99,7 +103,7 @@ module _ (from_bucket from_key : List ℕ) (replaced : Option Replaced) (s : Sea
       };
     }
 
-  put_writes : IsWritingOf (put_object_of s) kept_due (HasCopy from_bucket from_key replaced s) (CopiesObject s.bucket s.key from_bucket from_key replaced s.moment)
+  put_writes : IsWritingOf (put_object_of s) (stored_due (etag_put (put_object_of s))) (HasCopy from_bucket from_key replaced s) (CopiesObject s.bucket s.key from_bucket from_key replaced s.moment)
   put_writes = record {
     effect = λ tree sound settled has. put_effect tree sound settled has;
     settled = λ tree.
@@ -107,8 +111,8 @@ module _ (from_bucket from_key : List ℕ) (replaced : Option Replaced) (s : Sea
   }
 
   pub puts_copy : {request : SwiftRequest} → request ≡ put_object_of s
-      → IsWritingOf request kept_due (HasCopy from_bucket from_key replaced s) (CopiesObject s.bucket s.key from_bucket from_key replaced s.moment)
-  puts_copy same = subst (λ r. IsWritingOf r kept_due (HasCopy from_bucket from_key replaced s) (CopiesObject s.bucket s.key from_bucket from_key replaced s.moment)) (sym same) put_writes
+      → IsWritingOf request (stored_due (etag_put request)) (HasCopy from_bucket from_key replaced s) (CopiesObject s.bucket s.key from_bucket from_key replaced s.moment)
+  puts_copy same = subst (λ r. IsWritingOf r (stored_due (etag_put r)) (HasCopy from_bucket from_key replaced s) (CopiesObject s.bucket s.key from_bucket from_key replaced s.moment)) (sym same) put_writes
 
 -- ---- the step that it is
 

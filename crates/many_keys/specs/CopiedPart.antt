@@ -6,11 +6,18 @@ use Rattle.s3_machine.specs.Copies.{copied_span, has_last}
 use Rattle.s3_machine.specs.Limits.{most_body_bytes}
 use Rattle.s3_machine.specs.Reading.{taken}
 use Rattle.s3_machine.specs.State.{Object, State}
+use Rattle.s3_machine.specs.declared.operation.Label.{Label}
 use Rattle.s3_machine.specs.declared.operation.ObjectHead.{ObjectHead}
+use Rattle.s3_machine.specs.declared.operation.Op.{Op}
+use Rattle.s3_machine.specs.declared.operation.Op.TheVariants.{CopyObject, CopyPart}
 use Rattle.swift_calls.specs.Account.{SwiftAccount}
 use Rattle.upload_records.specs.Native.{object_at, s3_state}
 use Rattle.account_calls.specs.Calls.{HasBucket, TellsObject}
+use Rattle.account_calls.specs.Puts.{StandsIn}
 use Rattle.upload_calls.specs.Found.{IsOpenUpload}
+use Rattle.upload_calls.specs.Interpret.{put_part_of}
+use Rattle.upload_calls.specs.Records.{StandsPart}
+use Rattle.many_keys.specs.Copies.{StandsCopy}
 
 -- the upload is open, and the bucket of the source is there
 pub record MayCopyFrom (bucket key text : List ℕ) (id : ℕ) (from_bucket : List ℕ) (tree : SwiftAccount) : Type 0 where
@@ -34,3 +41,21 @@ pub record AreCopied (from_bucket from_key : List ℕ) (range : Option (ℕ × �
 pub record MayPutCopy (bucket key text : List ℕ) (id : ℕ) (from_bucket from_key : List ℕ) (range : Option (ℕ × ℕ)) (body : List ℕ) (tree : SwiftAccount) : Type 0 where
   pub opened : IsOpenUpload bucket key text id tree
   pub bytes : AreCopied from_bucket from_key range body (s3_state tree)
+
+-- ---- what stands, over every observable store, whether its account is consistent or not
+
+-- the file of a part of some bytes stands as it was put
+pub record StandsCopiedPart (bucket : List ℕ) (id number moment : ℕ) (tree : SwiftAccount) : Type 0 where
+  pub body : List ℕ
+  pub stands : StandsIn tree (put_part_of bucket id number body moment)
+
+-- into the upload whose id this text writes
+pub record StandsPartCopy (bucket text : List ℕ) (number moment : ℕ) (tree : SwiftAccount) : Type 0 where
+  pub body : List ℕ
+  pub part : StandsPart bucket text number body moment tree
+
+-- what an operation that was done leaves where it stands: the file of a copy, or that of a part; of any other operation nothing is said
+abbrev pub CopyStands : Op → Label → SwiftAccount → Type 0
+CopyStands (CopyObject bucket key acl from_bucket from_key replaced) label tree = StandsCopy bucket key label.moment tree
+CopyStands (CopyPart bucket key id number from_bucket from_key range) label tree = StandsPartCopy bucket id number label.moment tree
+CopyStands _ label tree = Unit {0}

@@ -8,7 +8,9 @@ use Rattle.s3_machine.specs.declared.operation.Replaced.{Replaced}
 use Rattle.s3_machine.specs.ETag.{body_etag}
 use Rattle.s3_machine.specs.Limits.{is_content_type, is_proper_meta, most_body_bytes}
 use Rattle.s3_machine.specs.State.{State}
-use Rattle.swift_marks.specs.Tag.{is_etag}
+use Rattle.swift_calls.specs.Account.{SwiftObject, SwiftAccount, find_object}
+use Rattle.swift_marks.specs.declared.tag.Tag.{Tag}
+use Rattle.swift_marks.specs.Tag.{is_etag, tag_text}
 use Rattle.account_calls.specs.Calls.{HasBucket, TellsBucket, TellsBytes, TellsObject}
 use Rattle.account_calls.specs.declared.fault.PlanFault.{PlanFault}
 use Rattle.account_calls.specs.declared.fault.PlanFault.TheVariants.{Inconsistent}
@@ -67,3 +69,13 @@ pub record IsReadSource (bucket : List ℕ) (acl : Acl) (from_bucket from_key : 
 abbrev pub content_of : Option Replaced → List ℕ → List Pair → Replaced
 content_of None content_type meta = record { content_type = content_type; meta = meta }
 content_of (Some replaced) content_type meta = replaced
+
+-- ---- what stands, over every observable store, whether its account is consistent or not
+
+-- a file stands under the key whose tag is of this moment
+pub record StandsCopy (bucket key : List ℕ) (moment : ℕ) (tree : SwiftAccount) : Type 0 where
+  pub file : SwiftObject
+  pub tag : Tag
+  pub there : find_object tree bucket key ≡ Some file
+  pub tagged : file.content_type ≡ tag_text tag
+  pub dated : tag.moment ≡ moment

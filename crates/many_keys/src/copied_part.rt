@@ -14,8 +14,10 @@ ghost use Rattle.account_calls.specs.Interpret.{IsShownHead};
 ghost use Rattle.account_calls.specs.Lent.{Stays};
 ghost use Rattle.account_calls.specs.declared.state.Known.TheVariants as known;
 ghost use Rattle.account_calls.specs.Plan.{ended, Plans};
+ghost use Rattle.account_calls.specs.Puts.{EnsuresIfDone, StandsIn};
 ghost use Rattle.upload_calls.specs.Found.{IsOpenUpload};
-ghost use Rattle.many_keys.specs.CopiedPart.{MayCopyFrom, MayCopyOf, MayPutCopy};
+ghost use Rattle.upload_calls.specs.Interpret.{put_part_of};
+ghost use Rattle.many_keys.specs.CopiedPart.{MayCopyFrom, MayCopyOf, MayPutCopy, StandsCopiedPart, StandsPartCopy};
 
 use account_calls::{PlanFault, Settled, get_object, head_bucket, head_object};
 use gate_base::Bytes;
@@ -53,6 +55,8 @@ pub(crate) fn plan_upload_part_copy<W: Swift>(
         state.old.settings.now (Given Any)
         (CopyPart bucket.now key.now text.now number from_bucket from_key range) label.now
         known.Settled result }
+    ensures stands { EnsuresIfDone (W.history state.new.store.now)
+        (StandsPartCopy bucket.now text.now number label.now.moment) result }
 {
     match find_upload(alloc, state, bucket, key, text)? {
         Found::NoBucket => Ok(Reply::Refused(Code::NoSuchBucket)),
@@ -94,6 +98,8 @@ fn plan_part_copy_into_upload<W: Swift>(
         state.old.settings.now (GivenOf (IsOpenUpload bucket.now key text id))
         (CopyPart bucket.now key text number from_bucket from_key range) label.now known.Settled
         result }
+    ensures stands { EnsuresIfDone (W.history state.new.store.now)
+        (StandsCopiedPart bucket.now id number label.now.moment) result }
 {
     let Some(_) = head_bucket(state, &from_bucket)? else {
         return Ok(Reply::Refused(Code::NoSuchBucket));
@@ -134,6 +140,8 @@ fn plan_part_copy_from_bucket<W: Swift>(
         state.old.settings.now (GivenOf (MayCopyFrom bucket.now key text id from_bucket))
         (CopyPart bucket.now key text number from_bucket from_key range) label.now known.Settled
         result }
+    ensures stands { EnsuresIfDone (W.history state.new.store.now)
+        (StandsCopiedPart bucket.now id number label.now.moment) result }
 {
     let Some(head) = head_object(alloc, state, &from_bucket, &from_key)? else {
         return Ok(Reply::Refused(Code::NoSuchKey));
@@ -179,6 +187,8 @@ fn plan_part_copy_of_source<W: Swift>(
         (GivenOf (MayCopyOf bucket.now key text id from_bucket from_key head))
         (CopyPart bucket.now key text number from_bucket from_key range) label.now known.Settled
         result }
+    ensures stands { EnsuresIfDone (W.history state.new.store.now)
+        (StandsCopiedPart bucket.now id number label.now.moment) result }
 {
     if !has_last(range, head.size) {
         return Ok(Reply::Refused(Code::InvalidRange));
@@ -235,6 +245,8 @@ fn plan_part_copy_of_bytes<W: Swift>(
         (GivenOf (MayCopyOf bucket.now key text id from_bucket from_key head))
         (CopyPart bucket.now key text number from_bucket from_key range) label.now known.Settled
         result }
+    ensures stands { EnsuresIfDone (W.history state.new.store.now)
+        (StandsCopiedPart bucket.now id number label.now.moment) result }
 {
     let etag = head.etag.as_slice();
     let told = get_object(alloc, state, from_bucket, from_key, etag, head.size, range)?;
@@ -268,6 +280,8 @@ fn plan_put_part_copy<W: Swift>(
         (GivenOf (MayPutCopy bucket.now key text id from_bucket from_key range bytes))
         (CopyPart bucket.now key text number from_bucket from_key range) label.now known.Settled
         result }
+    ensures stands { EnsuresIfDone (W.history state.new.store.now)
+        (λ tree. StandsIn tree (put_part_of bucket.now id number bytes label.now.moment)) result }
 {
     let body = Body::new(bytes);
     let etag = body.etag();
@@ -306,6 +320,8 @@ fn plan_part_copy_with_etag<W: Swift>(
         (GivenOf (MayPutCopy bucket.now key text id from_bucket from_key range bytes))
         (CopyPart bucket.now key text number from_bucket from_key range) label.now known.Settled
         result }
+    ensures stands { EnsuresIfDone (W.history state.new.store.now)
+        (λ tree. StandsIn tree (put_part_of bucket.now id number bytes label.now.moment)) result }
 {
     let text = Bytes::from_slice(alloc, etag)?;
     let moment = label.moment;

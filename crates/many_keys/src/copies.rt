@@ -11,8 +11,9 @@ ghost use Rattle.account_calls.specs.Answers.{copy_calls};
 ghost use Rattle.account_calls.specs.Calls.{always, by_account, Any, Given, TellsBucket};
 ghost use Rattle.account_calls.specs.Lent.{Stays};
 ghost use Rattle.account_calls.specs.Plan.{ended, Plans};
+ghost use Rattle.account_calls.specs.Puts.{EnsuresIfDone};
 ghost use Rattle.account_calls.specs.declared.state.Known.TheVariants as known;
-ghost use Rattle.many_keys.specs.Copies.{IsFoundBucket, IsFoundSource, IsProperHead, IsReadSource, is_body_to_copy};
+ghost use Rattle.many_keys.specs.Copies.{IsFoundBucket, IsFoundSource, IsProperHead, IsReadSource, StandsCopy, is_body_to_copy};
 
 use crate::listed::copy_source_of_parts;
 use crate::source::{content_of, get_source_to_copy, head_source};
@@ -47,6 +48,8 @@ pub(crate) fn copy_object<W: Swift>(
         (W.history state.old.store.now) (W.history state.new.store.now) state.old.settings.now
         (Given Any) (CopyObject bucket key acl from_bucket from_key replaced) label.now
         known.Settled result }
+    ensures stands { EnsuresIfDone (W.history state.new.store.now)
+        (StandsCopy bucket key label.now.moment) result }
 {
     let Some(list) = head_bucket(state, &bucket)? else {
         return Ok(Reply::Refused(Code::NoSuchBucket));
@@ -88,6 +91,8 @@ fn copy_within<W: Swift>(
         (W.history state.old.store.now) (W.history state.new.store.now) state.old.settings.now
         (Given (λ s. TellsBucket bucket s (Some list)))
         (CopyObject bucket key acl from_bucket from_key replaced) label.now known.Settled result }
+    ensures stands { EnsuresIfDone (W.history state.new.store.now)
+        (StandsCopy bucket key label.now.moment) result }
 {
     if is_other_acl(acl, list) {
         return Ok(Reply::Refused(Code::NotImplemented));
@@ -133,6 +138,8 @@ fn copy_from<W: Swift>(
         (W.history state.old.store.now) (W.history state.new.store.now) state.old.settings.now
         (Given (IsFoundBucket bucket list from_bucket))
         (CopyObject bucket key acl from_bucket from_key replaced) label.now known.Settled result }
+    ensures stands { EnsuresIfDone (W.history state.new.store.now)
+        (StandsCopy bucket key label.now.moment) result }
 {
     let Some(head) = head_source(alloc, state, &from_bucket, &from_key)? else {
         return Ok(Reply::Refused(Code::NoSuchKey));
@@ -178,6 +185,8 @@ fn copy_found<W: Swift>(
         (W.history state.old.store.now) (W.history state.new.store.now) state.old.settings.now
         (Given (IsFoundSource bucket list from_bucket from_key head))
         (CopyObject bucket key acl from_bucket from_key replaced) label.now known.Settled result }
+    ensures stands { EnsuresIfDone (W.history state.new.store.now)
+        (StandsCopy bucket key label.now.moment) result }
 {
     if is_onto_itself(&bucket, &key, &from_bucket, &from_key, &replaced) {
         return Ok(Reply::Refused(Code::InvalidRequest));
@@ -235,6 +244,8 @@ fn copy_plain_source<W: Swift>(
         → Plans (always 2) (W.history state.old.store.now) (W.history state.new.store.now)
         state.old.settings.now (Given (IsFoundSource bucket list from_bucket from_key head))
         (CopyObject bucket key acl from_bucket from_key replaced) label.now known.Settled result }
+    ensures stands { EnsuresIfDone (W.history state.new.store.now)
+        (StandsCopy bucket key label.now.moment) result }
 {
     let body = get_source_to_copy(alloc, state, from_bucket, from_key, &head)?;
     put_copy(alloc, state, bucket, key, replaced, head, body, label)
@@ -262,6 +273,8 @@ fn put_copy<W: Swift>(
         → Plans (always 1) (W.history state.old.store.now) (W.history state.new.store.now) state.old.settings.now
         (Given (IsReadSource bucket list from_bucket from_key head body))
         (CopyObject bucket key acl from_bucket from_key replaced) label.now known.Settled result }
+    ensures stands { EnsuresIfDone (W.history state.new.store.now)
+        (StandsCopy bucket key label.now.moment) result }
 {
     let etag = head.etag;
     let content = content_of(replaced, head.content_type, head.meta);

@@ -16,16 +16,17 @@ ghost use Rattle.account_calls.specs.Answers.{listed_by, records_of, segments_of
 ghost use Rattle.account_calls.specs.Calls.{always, by_account, Changes, Given, GivenOf};
 ghost use Rattle.account_calls.specs.Lent.{Stays};
 ghost use Rattle.account_calls.specs.Plan.{Plans};
+ghost use Rattle.account_calls.specs.Puts.{EnsuresIfDone, Stands, StandsIn};
 ghost use Rattle.account_calls.specs.Sealed.{put_object_of};
 ghost use Rattle.account_calls.specs.declared.state.Known.TheVariants as known;
-ghost use Rattle.many_keys.specs.Copies.{IsFoundSource, IsProperHead};
+ghost use Rattle.many_keys.specs.Copies.{IsFoundSource, IsProperHead, StandsCopy};
 ghost use Rattle.many_keys.specs.CopiedLists.{CopiesObject, HasCopy, IsCopy, MayFill, MayPut, sealed_copy, is_cut};
 
 use crate::copies::end_copy_object_plan;
 use crate::cut::{Piece, get_pieces_to_copy};
 use crate::segments::copy_source_segments;
 use crate::source::content_of;
-use account_calls::{PlanFault, Settled, interpret_put_without_etag, object_request};
+use account_calls::{PlanFault, Settled, etag_of_put, interpret_put_with_etag, object_request};
 use gate_base::{Bytes, Copying, List, Memory, drop};
 use s3_machine::{Label, ObjectHead, Replaced, Reply};
 use s3_names::Acl;
@@ -70,6 +71,8 @@ pub(crate) fn copy_source_of_parts<W: Swift>(
         (W.history state.old.store.now) (W.history state.new.store.now) state.old.settings.now
         (Given (IsFoundSource bucket list from_bucket from_key head))
         (CopyObject bucket key acl from_bucket from_key replaced) label.now known.Settled result }
+    ensures stands { EnsuresIfDone (W.history state.new.store.now)
+        (StandsCopy bucket key label.now.moment) result }
 {
     if head.size == 0 {
         return copy_empty_source(alloc, state, bucket, key, replaced, head, label);
@@ -113,6 +116,8 @@ fn copy_empty_source<W: Swift>(
         (W.history state.old.store.now) (W.history state.new.store.now) state.old.settings.now
         (Given (IsFoundSource bucket list from_bucket from_key head))
         (CopyObject bucket key acl from_bucket from_key replaced) label.now known.Settled result }
+    ensures stands { EnsuresIfDone (W.history state.new.store.now)
+        (StandsCopy bucket key label.now.moment) result }
 {
     law_unused_is_abandoned();
     let id = free_id(alloc, state, &bucket, label.draw)?;
@@ -151,6 +156,8 @@ fn copy_source_by_pieces<W: Swift>(
         (W.history state.old.store.now) (W.history state.new.store.now) state.old.settings.now
         (Given (IsFoundSource bucket list from_bucket from_key head))
         (CopyObject bucket key acl from_bucket from_key replaced) label.now known.Settled result }
+    ensures stands { EnsuresIfDone (W.history state.new.store.now)
+        (StandsCopy bucket key label.now.moment) result }
 {
     law_unused_is_abandoned();
     let id = free_id(alloc, state, &bucket, label.draw)?;
@@ -198,6 +205,8 @@ fn copy_under<W: Swift>(
         (GivenOf (MayFill bucket list id from_bucket.now from_key.now head))
         (CopyObject bucket key acl from_bucket.now from_key.now replaced) label.now known.Settled
         result }
+    ensures stands { EnsuresIfDone (W.history state.new.store.now)
+        (StandsCopy bucket key label.now.moment) result }
 {
     let parts = copy_source_segments(
         alloc,
@@ -264,13 +273,16 @@ fn put_listed_copy<W: Swift>(
         state.old.settings.now (GivenOf (MayPut list from_bucket from_key replaced sealed.now))
         (CopyObject sealed.now.bucket sealed.now.key acl from_bucket from_key replaced) label
         known.Settled result }
+    ensures stands { EnsuresIfDone (W.history state.new.store.now)
+        (λ tree. StandsIn tree (put_object_of sealed.now)) result }
 {
     let etag = sealed.etag.copy()?;
     end_copy_object_plan(put_copy_file(alloc, state, sealed), etag, sealed.moment)
 }
 
 /// Puts the copy, whose parts stand beside the bucket, by PUT of its file (Object Storage API v1, "Static large objects"): the one
-/// call that commits. At most one call. After Ok the S3 state has the copy in place of what stood under the key. After Failed, which
+/// call that commits. At most one call. After Ok the S3 state has the copy in place of what stood under the key, and over every
+/// observable store, consistent or not, its file stands. After Failed, which
 /// comes only where the store's count of faults rose, and after Memory the state is the old one or that. Inconsistent never comes
 /// over an observable consistent account of which this is so.
 fn put_copy_file<W: Swift>(
@@ -285,10 +297,12 @@ fn put_copy_file<W: Swift>(
         (GivenOf (HasCopy from_bucket from_key replaced sealed.now))
         (CopiesObject sealed.now.bucket sealed.now.key from_bucket from_key replaced
         sealed.now.moment) result }
+    ensures stands { Stands (W.history state.new.store.now) (put_object_of sealed.now) result }
 {
     let request = copy_file_request(alloc, sealed)?;
+    let etag = etag_of_put(&request);
     let reply = state.call(request)?;
-    interpret_put_without_etag(&reply)
+    interpret_put_with_etag(&reply, &etag)
 }
 
 /// The PUT of the copy's file.

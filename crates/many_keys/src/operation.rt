@@ -1,5 +1,5 @@
 //! The answer to an operation on many keys.
-ghost use Rattle.std.specs.Prelude.{◌≡◌, true};
+ghost use Rattle.std.specs.Prelude.{◌≡◌, true, IsTrue};
 ghost use Rattle.s3_machine.specs.Step.{IsProper};
 ghost use Rattle.swift_calls.specs.History.{present};
 ghost use Rattle.account_calls.specs.Answers.{is_many, most_calls};
@@ -7,6 +7,8 @@ ghost use Rattle.account_calls.specs.declared.state.Known.TheVariants as known;
 ghost use Rattle.account_calls.specs.Calls.{Any, Given};
 ghost use Rattle.account_calls.specs.Lent.{Stays};
 ghost use Rattle.account_calls.specs.Plan.{Plans, Answered};
+ghost use Rattle.account_calls.specs.Puts.{EnsuresIfDone, IfDone};
+ghost use Rattle.many_keys.specs.CopiedPart.{CopyStands};
 
 use crate::copied_part::plan_upload_part_copy;
 use crate::copies::copy_object;
@@ -33,6 +35,10 @@ pub fn answer<W: Swift>(alloc: Global, state: &mut Settled<'_, W>, op: Op, label
     ensures answered { Answered (most_calls op (present (W.history state.old.store.now)))
         (W.history state.old.store.now) (W.history state.new.store.now) state.old.settings.now op
         label.now known.Settled result }
+
+    // What was copied stands, over every observable store, consistent or not.
+    ensures stands { IsTrue (W.history state.new.store.now).observable
+        → IfDone result (CopyStands op label.now (present (W.history state.new.store.now))) }
 {
     let mut op = op;
     let end = plan(alloc, state, &mut op, label);
@@ -53,6 +59,7 @@ fn plan<W: Swift>(
     ensures plans { Plans (most_calls op.old (present (W.history state.old.store.now)))
         (W.history state.old.store.now) (W.history state.new.store.now) state.old.settings.now
         (Given Any) op.old label.now known.Settled result }
+    ensures stands { EnsuresIfDone (W.history state.new.store.now) (CopyStands op.old label.now) result }
 {
     match op {
         Op::DeleteObjects {

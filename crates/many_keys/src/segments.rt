@@ -10,6 +10,8 @@ ghost use Rattle.upload_texts.specs.Sealed.{part_fits_sealed_text};
 ghost use Rattle.account_calls.specs.Calls.{always, Asks, Given, GivenOf, HasObject, Tells};
 ghost use Rattle.account_calls.specs.Interpret.{stored_due};
 ghost use Rattle.account_calls.specs.Lent.{Stays};
+ghost use Rattle.account_calls.specs.Puts.{Stands};
+ghost use Rattle.upload_calls.specs.Interpret.{put_part_of};
 ghost use Rattle.account_calls.specs.declared.fault.PlanFault.TheVariants as fault;
 ghost use Rattle.many_keys.specs.CopiedLists.{AreOfCut, CopiesFirst, CopiesPiece, IsUnnamed, MayCopy, PutsSegment, TellsPiece, is_cut, piece_in, sized_due, told_due};
 
@@ -177,6 +179,8 @@ fn put_copied_segment<W: Swift>(
     ensures proper { IfOk result (λ part. part_fits_sealed_text part ≡ true) }
     ensures asks { Asks (always 1) (W.history state.old.store.now) (W.history state.new.store.now)
         (GivenOf (IsUnnamed bucket.now id)) (PutsSegment bucket.now id number body moment) result }
+    ensures stands { Stands (W.history state.new.store.now)
+        (put_part_of bucket.now id number body moment) result }
 {
     let etag = body_etag(body.as_slice());
     let part = SealedPart {
@@ -210,6 +214,8 @@ fn put_copied_segment_file<W: Swift>(
     ensures asks { Asks (always 1) (W.history state.old.store.now) (W.history state.new.store.now)
         (GivenOf (IsUnnamed bucket.now id)) (PutsSegment bucket.now id part.number body moment)
         result }
+    ensures stands { Stands (W.history state.new.store.now)
+        (put_part_of bucket.now id part.number body moment) result }
 {
     law_orphan_put();
     let request = part_request(alloc, bucket, id, part.number, body, etag, moment)?;

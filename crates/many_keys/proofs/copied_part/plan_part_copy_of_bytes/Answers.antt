@@ -3,6 +3,7 @@ use Rattle.std.proofs.Common.{sym, ◌∙◌, lit≤, rules}
 use Rattle.account_calls.specs.Calls.{always}
 use Rattle.account_calls.proofs.lemmas.Ends.{after_told, calls_end, calls_in_vain, goes_on_from, met_within}
 use Rattle.many_keys.proofs.CopiedPart.{as_wanted, copy_is_told, not_gone, not_large, source_told}
+use Rattle.account_calls.proofs.lemmas.Puts.{ensures_less}
 use Rattle.many_keys.proofs.copied_part.plan_part_copy_of_bytes.Goals as goal
 
 pub returns-in_err-told-clause-plans : goal.returns-in_err-told-clause-plans
@@ -31,3 +32,6 @@ returns-clause-plans g c = λ key text.
     (λ tree may told. copy_is_told c.args.state.now.settings.now c.args.bucket.now key text c.args.number c.args.from_bucket c.args.from_key c.args.range c.args.label.now tree c.requires.name c.args.id c.args.head may
     c.requires.ends (not_large _ _ c.requires.wanted c.requires.sized) c.requires.range c.in-Some.body told) may tells)
     (lit≤ tt)
+
+pub returns-clause-stands : goal.returns-clause-stands
+returns-clause-stands g c = ensures_less (λ tree stands. record { body = _; stands = stands }) _ c.plan_put_part_copy.ensures.stands

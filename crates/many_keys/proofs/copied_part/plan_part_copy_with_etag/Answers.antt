@@ -2,6 +2,8 @@ use Rattle.std.proofs.Common.{sym, subst, ◌∙◌, lit≤}
 use Rattle.account_calls.specs.Plan.{Plans}
 use Rattle.account_calls.proofs.lemmas.Ends.{out_of_memory, commits, becomes}
 use Rattle.upload_calls.proofs.lemmas.Opened.{has_open}
+use Rattle.account_calls.proofs.lemmas.Puts.{ensures_ended}
+use Rattle.account_calls.specs.Puts.{EnsuresIfDone}
 use Rattle.many_keys.proofs.CopiedPart.{copied_is_own, copy_stored}
 use Rattle.many_keys.proofs.copied_part.plan_part_copy_with_etag.Goals as goal
 
@@ -13,3 +15,6 @@ returns-clause-plans g c = λ key text from_bucket from_key range.
     subst (Plans _ _ _ _ _ _ _ _) (sym c.end_upload_part_copy_plan.ensures)
     (commits _ (lit≤ tt) c.put_part.ensures.changes (λ done. copied_is_own _ _ c.requires.moment) (λ tree may. has_open may.opened)
     (λ tree done new may is. becomes (copy_stored _ _ _ _ _ _ _ _ _ tree c.requires.name c.args.id _ _ (c.in_ok-text.ensures ∙ c.requires.etag) may) is))
+
+pub returns-clause-stands : goal.returns-clause-stands
+returns-clause-stands g c = subst (EnsuresIfDone _ _) (sym c.end_upload_part_copy_plan.ensures) (ensures_ended _ _ c.put_part.ensures.stands)

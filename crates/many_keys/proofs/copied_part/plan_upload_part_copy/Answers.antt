@@ -1,9 +1,11 @@
-use Rattle.std.proofs.Common.{lit≤, rules}
+use Rattle.std.proofs.Common.{subst, lit≤, rules}
 use Rattle.account_calls.specs.Calls.{always}
 use Rattle.account_calls.proofs.lemmas.Ends.{met_settled, goes_on_from}
 use Rattle.upload_calls.specs.declared.found.Found.TheVariants.{NoBucket, NoUpload, Open}
 use Rattle.upload_calls.proofs.lemmas.Asking.{after_told_of, asked_in_vain, asked_reply}
 use Rattle.many_keys.proofs.CopiedPart.{copy_lost, copy_missing}
+use Rattle.account_calls.proofs.lemmas.Puts.{ensures_less}
+use Rattle.upload_calls.specs.Found.{IsFoundBy}
 use Rattle.many_keys.proofs.copied_part.plan_upload_part_copy.Goals as goal
 
 pub returns-in_err-find_upload-clause-plans : goal.returns-in_err-find_upload-clause-plans
@@ -23,3 +25,8 @@ pub returns-in-Open-clause-plans : goal.returns-in-Open-clause-plans
 returns-in-Open-clause-plans g c =
     goes_on_from met_settled c.find_upload.ensures.stays.settings c.in_ok-find_upload.ensures.asks (c.plan_part_copy_into_upload.ensures.plans c.args.key.now c.args.text.now)
     (λ any tells. after_told_of (Open c.in-Open.id) c.in-Open.is tells) (lit≤ tt)
+
+pub returns-in-Open-clause-stands : goal.returns-in-Open-clause-stands
+returns-in-Open-clause-stands g c =
+    let is = subst (IsFoundBy c.args.text.now) c.in-Open.is c.in_ok-find_upload.ensures.by_text in
+    ensures_less (λ tree part. record { body = part.body; part = record { id = c.in-Open.id; is = is; stands = part.stands } }) _ c.plan_part_copy_into_upload.ensures.stands

@@ -1,5 +1,7 @@
 use Rattle.std.proofs.Common.{arith}
 use Rattle.many_keys.proofs.CopyPlans.{id_in_vain, id_puts, is_copy, none_is_well}
+use Rattle.account_calls.proofs.lemmas.Puts.{ensures_less}
+use Rattle.many_keys.proofs.CopiesStand.{listed_stands}
 use Rattle.many_keys.proofs.listed.copy_empty_source.Goals as goal
 
 pub returns-in_err-id-clause-plans : goal.returns-in_err-id-clause-plans
@@ -16,3 +18,6 @@ pub returns-clause-plans : goal.returns-clause-plans
 returns-clause-plans g c = λ acl list from_bucket from_key other onto.
     id_puts _ _ from_bucket from_key acl list c.args.replaced c.args.head c.args.label.now other onto
     _ c.law_unused_is_abandoned.ensures c.requires.place.named c.free_id.ensures.stays.settings c.in_ok-id.ensures.asks c.requires.empty c.new-parts.ensures c.sealed_copy-sealed.ensures.copy c.put_listed_copy-end.ensures.plans
+
+pub returns-clause-stands : goal.returns-clause-stands
+returns-clause-stands g c = ensures_less (λ tree stands. listed_stands c.sealed_copy-sealed.ensures.copy tree stands) _ c.put_listed_copy-end.ensures.stands

@@ -1,4 +1,6 @@
 use Rattle.many_keys.proofs.CopyPlans.{copy_goes_on, copy_in_vain, cut_is_well, is_copy}
+use Rattle.account_calls.proofs.lemmas.Puts.{ensures_less}
+use Rattle.many_keys.proofs.CopiesStand.{listed_stands}
 use Rattle.many_keys.proofs.listed.copy_under.Goals as goal
 
 pub returns-in_err-parts-clause-plans : goal.returns-in_err-parts-clause-plans
@@ -15,3 +17,6 @@ pub returns-clause-plans : goal.returns-clause-plans
 returns-clause-plans g c = λ acl list other onto.
     copy_goes_on _ _ c.args.from_bucket.now c.args.from_key.now acl list c.args.replaced c.args.head c.args.label.now other onto
     c.args.cut.now c.in_ok-parts.parts c.as_slice.ensures c.copy_source_segments.ensures.stays.settings c.in_ok-parts.ensures.asks c.sealed_copy-sealed.ensures.copy c.put_listed_copy-end.ensures.plans
+
+pub returns-clause-stands : goal.returns-clause-stands
+returns-clause-stands g c = ensures_less (λ tree stands. listed_stands c.sealed_copy-sealed.ensures.copy tree stands) _ c.put_listed_copy-end.ensures.stands

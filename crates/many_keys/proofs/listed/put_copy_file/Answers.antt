@@ -1,4 +1,7 @@
+use Rattle.std.proofs.Common.{ap, ◌∙◌}
+use Rattle.account_calls.specs.Interpret.{stored_due}
 use Rattle.account_calls.proofs.lemmas.One.{not_sent, sent_in_vain, sent}
+use Rattle.account_calls.proofs.lemmas.Puts.{stands_by}
 use Rattle.many_keys.proofs.PutsFile.{puts_copy}
 use Rattle.many_keys.proofs.listed.put_copy_file.Goals as goal
 
@@ -11,4 +14,8 @@ returns-in_err-reply-clause-changes g c = λ from_bucket from_key replaced.
 
 pub returns-clause-changes : goal.returns-clause-changes
 returns-clause-changes g c = λ from_bucket from_key replaced.
-    sent (puts_copy from_bucket from_key replaced c.args.sealed.now c.requires.copy c.in_ok-request.ensures.request) c.in_ok-reply.ensures.calls _ c.interpret_put_without_etag.ensures.due c.interpret_put_without_etag.ensures.own
+    sent (puts_copy from_bucket from_key replaced c.args.sealed.now c.requires.copy c.in_ok-request.ensures.request) c.in_ok-reply.ensures.calls _
+    (c.interpret_put_with_etag.ensures.due ∙ ap (λ etag. stored_due etag c.in_ok-reply.reply) c.etag_of_put-etag.ensures) c.interpret_put_with_etag.ensures.own
+
+pub returns-clause-stands : goal.returns-clause-stands
+returns-clause-stands g c = stands_by _ c.in_ok-request.ensures.request c.in_ok-reply.ensures.calls _ c.interpret_put_with_etag.ensures.due

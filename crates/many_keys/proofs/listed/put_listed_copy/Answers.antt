@@ -1,6 +1,8 @@
 use Rattle.std.proofs.Common.{sym, subst, lit≤, rules}
 use Rattle.account_calls.specs.Plan.{Plans}
 use Rattle.account_calls.proofs.lemmas.Ends.{commits, out_of_memory}
+use Rattle.account_calls.proofs.lemmas.Puts.{ensures_ended}
+use Rattle.account_calls.specs.Puts.{EnsuresIfDone}
 use Rattle.many_keys.proofs.PutsFile.{copy_steps}
 use Rattle.many_keys.proofs.listed.put_listed_copy.Goals as goal
 
@@ -12,3 +14,6 @@ returns-clause-plans g c = λ acl list from_bucket from_key replaced label same 
 
 pub returns-in_err-etag-clause-plans : goal.returns-in_err-etag-clause-plans
 returns-in_err-etag-clause-plans g c = λ acl list from_bucket from_key replaced label same other dated. out_of_memory _ _ c.from_residual.ensures.1
+
+pub returns-clause-stands : goal.returns-clause-stands
+returns-clause-stands g c = subst (EnsuresIfDone _ _) (sym c.end_copy_object_plan.ensures) (ensures_ended _ _ c.put_copy_file.ensures.stands)

@@ -1,8 +1,12 @@
 use Rattle.std.proofs.Common.{sym, subst}
 use Rattle.account_calls.specs.Plan.{Answered}
+use Rattle.account_calls.proofs.lemmas.Puts.{ensures_reply}
 use Rattle.account_calls.proofs.lemmas.Ends.{answered_by}
 use Rattle.many_keys.proofs.Deleting.{none_beside_many}
 use Rattle.many_keys.proofs.operation.answer.Goals as goal
 
 pub returns-clause-answered : goal.returns-clause-answered
 returns-clause-answered g c = subst (Answered _ _ _ _ _ _ _) (sym c.reply_of.ensures) (answered_by (none_beside_many _ c.requires.own) c.plan-end.ensures.plans)
+
+pub returns-clause-stands : goal.returns-clause-stands
+returns-clause-stands g c = rw c.reply_of.ensures (ensures_reply _ c.plan-end.ensures.stands)

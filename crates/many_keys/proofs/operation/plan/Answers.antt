@@ -2,10 +2,14 @@ use Rattle.std.specs.Prelude.{Err}
 use Rattle.std.proofs.Common.{refl}
 use Rattle.account_calls.specs.declared.fault.PlanFault.TheVariants.{Memory}
 use Rattle.account_calls.proofs.lemmas.Ends.{out_of_memory}
+use Rattle.account_calls.proofs.lemmas.Puts.{ensures_nothing}
 use Rattle.many_keys.proofs.operation.plan.Goals as goal
 
 pub returns-in-DeleteObjects-clause-plans : goal.returns-in-DeleteObjects-clause-plans
 returns-in-DeleteObjects-clause-plans g c = rw c.in-DeleteObjects.is (rw c.replace.ensures.value at (c.delete_objects.ensures.plans c.args.label.now))
 
 pub returns-in_default : goal.returns-in_default
-returns-in_default g c = record { stays = record { store = refl; settings = refl }; plans = out_of_memory _ (Err Memory) refl }
+returns-in_default g c = record { stays = record { store = refl; settings = refl }; plans = out_of_memory _ (Err Memory) refl; stands = record { so = λ observable. tt } }
+
+pub returns-in-DeleteObjects-clause-stands : goal.returns-in-DeleteObjects-clause-stands
+returns-in-DeleteObjects-clause-stands g c = rw c.in-DeleteObjects.is (ensures_nothing _)

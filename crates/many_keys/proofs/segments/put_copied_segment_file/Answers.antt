@@ -3,6 +3,7 @@ use Rattle.account_calls.specs.Interpret.{stored_due}
 use Rattle.account_calls.proofs.lemmas.One.{not_asked}
 use Rattle.account_calls.proofs.lemmas.Quiet.{quiet_in_vain, quieted}
 use Rattle.many_keys.specs.CopiedLists.{told_due}
+use Rattle.many_keys.proofs.CopiesStand.{told_stands}
 use Rattle.many_keys.proofs.PieceCalls.{puts_segment}
 use Rattle.many_keys.proofs.segments.put_copied_segment_file.Goals as goal
 
@@ -40,3 +41,6 @@ returns-clause-asks g c =
       size = c.requires.size;
     }))
     c.in_ok-reply.ensures.calls _ (inr (c.copied_segment_in_reply.ensures.due ∙ ap (λ e. told_due c.args.part (stored_due e c.in_ok-reply.reply)) c.requires.etag)) c.copied_segment_in_reply.ensures.own
+
+pub returns-clause-stands : goal.returns-clause-stands
+returns-clause-stands g c = told_stands c.args.etag.now c.in_ok-request.ensures.request c.in_ok-reply.ensures.calls c.args.part _ _ refl c.copied_segment_in_reply.ensures.due
