@@ -2039,6 +2039,12 @@ def each_call_of_a_completion_is_lost(check):
                 wanted = ["done" if number > 4 else (503, "ServiceUnavailable"), number, whole if is_sealed else (404, "NoSuchKey"), "done", whole]
                 check(f"a completion whose call {number} loses {title}", wanted, found)
                 check("and nothing is sealed", {}, store.account["+gateway"][1])
+        store.account = {**account(uploads=JOINED), "+gateway": ([], {})}
+        store.begin({5: answer(201, [("Etag", ABD)])})
+        found = brief(gate.ask(*COMPLETE)), len(store.calls), list(store.account["+gateway"][1])
+        check("a completion whose object is stored with another ETag", ((500, "InconsistentStore"), 5, [b"sealed"]), found)
+        store.begin({})
+        check("and which the next request finishes", (whole, {}), (both(gate.ask("GET", "/photos/v")), store.account["+gateway"][1]))
 
 
 @group()
@@ -2254,6 +2260,11 @@ def each_call_of_a_copy_is_lost(check):
                     found = [reply, made, probe(gate), copied(gate.ask(*words)), probe(gate), both(gate.ask("GET", "/photos/v"))]
                     wanted = [(503, "ServiceUnavailable"), number, after if is_done else before, done_, after, (200, whole)]
                     check(f"a copy of {title} whose call {number} loses {how}", wanted, found)
+            store.account = copy_account({b"a": b"abc", b"b": b"other"})
+            store.begin({calls: answer(201, [("Etag", ABD)])})
+            reply, made = copied(gate.ask(*words)), len(store.calls)
+            store.begin({})
+            check(f"a copy of {title} that is stored with another ETag", ((500, "InconsistentStore"), calls, before), (reply, made, probe(gate)))
 
 
 @group()
