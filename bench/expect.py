@@ -23,9 +23,9 @@ GIVEN = {
     "tell": r"calls|left|objects|bodies",
 }
 # Those that may stand more than once in a case, and those below which lines `>` stand.
-OFTEN = {"key", "connection", "tell", "file", "manifest"}
+OFTEN = {"key", "connection", "tell", "file", "manifest", "files"}
 # The form of a line of a setup that puts a file on its account: container, name and bytes; or container, name, type and segments.
-FILE = re.compile(r"file \S+ \S+ .*|manifest \S+ \S+ \S+ .*")
+FILE = re.compile(r"file \S+ \S+ .*|manifest \S+ \S+ \S+ .*|files \S+ [0-9]+ \S+ .*")
 TAKES_BYTES = {"setup", "connection", "probe"}
 BYTES = re.compile(r">|>[.n]? .+|>\* \d+ .+|>x ([0-9a-fA-F]{2})+|>~ \d{8}T\d{6}Z \S+ [0-9a-f]{64}")
 VERB = re.compile(r"[a-z][a-z0-9-]*( .+)?")

@@ -2,13 +2,18 @@
 """Writes cases of object listings by chance, each walked to its end in its version, with the whole reply to each page.
 
     bench/listing-cases.py > crates/cases/data/listings-chance.txt
+    bench/listing-cases.py jumps > crates/cases/data/listings-jumps.txt
 
 The keys, prefixes, delimiters and markers come from a generator with a fixed seed, and the replies from the small model below,
 which knows only what this profile says of listings (docs/PROFILE.md): keys roll up first, then the marker is looked at, then
 the greatest number. Nothing is taken from the program. The requests are signed as bench/sign-cases.py signs them.
+
+With the argument `jumps` it writes listings of thousands of keys under one common prefix, with the number of calls that each
+makes: HEAD of the bucket, and the pages of 1000 names that a listing asks for which goes on behind a common prefix.
 """
 import hashlib
 import random
+import sys
 from urllib.parse import quote
 
 from case_signing import load_signing
@@ -156,6 +161,85 @@ def setup(chance, bucket, objects):
     return lines + ["= served", ""]
 
 
+def past(name, asked):
+    """Where a listing goes on behind a name: behind all keys of the common prefix that it rolls up into."""
+    place = name.find(asked.delimiter, len(asked.prefix)) if asked.delimiter and name.startswith(asked.prefix) else -1
+    if place < 0:
+        return name.encode()
+    common = name[: place + len(asked.delimiter)].encode()
+    return common + "\U0010ffff".encode() * ((1024 - len(common)) // 4 + 1)
+
+
+def pages_of(keys, asked, marker):
+    """How many pages of names are asked for, until the answer is full or a page is short."""
+    named = [key for key in keys if key.startswith(asked.prefix)]
+    most = min(1000 if asked.max is None else asked.max, 1000)
+    behind, pages, shown = past(marker, asked), 0, []
+    while most > 0:
+        page = [key for key in named if key.encode() > behind][:1000]
+        pages += 1
+        for key in page:
+            place = key.find(asked.delimiter, len(asked.prefix)) if asked.delimiter else -1
+            text = key if place < 0 else key[: place + len(asked.delimiter)]
+            if text.encode() > marker.encode() and text not in shown:
+                shown.append(text)
+        if len(shown) > most or len(page) < 1000:
+            break
+        behind = past(page[-1], asked)
+    return pages
+
+
+class Listed(Asked):
+    """What a listing of those asks for."""
+
+    def __init__(self, version, delimiter, start, most):
+        self.version, self.prefix, self.delimiter, self.start, self.max = version, "", delimiter, start, most
+        self.url, self.owner = False, None
+
+
+def jump_case(name, bucket, objects, walks):
+    """Walks one after another, with the number of calls that each request ends at; the first settles the store by two."""
+    keys = sorted(objects, key=str.encode)
+    given, wanted, calls, turn = [], [], 2, 0
+    for asked in walks:
+        marker, token, more = asked.start, None, True
+        while more:
+            items, more = items_of(keys, asked, marker)
+            data = body_of(bucket, objects, asked, marker, token, items, more)
+            calls += 1 + pages_of(keys, asked, marker)
+            given += [f"> GET {asked.target(bucket, marker, token)} HTTP/1.1", ">~", ">"]
+            wanted += [f"= piece 1 {calls}", "= < HTTP/1.1 200 OK", "= < Date: Fri, 24 May 2013 00:00:00 GMT", f"= < x-amz-request-id: {2 * turn + 1:032x}", "= < Content-Type: application/xml"]
+            first, _, rest = data.partition("\n")
+            wanted += [f"= < Content-Length: {len(data.encode())}", "= <", f"= <n {first}", f"= <. {rest}"]
+            if more:
+                marker = items[-1][0]
+                token = marker.encode().hex()
+            turn += 1
+    return [f"case {name}", "pieces 1000", "nomodel", "connection", *given, "= status 0", *wanted, ""]
+
+
+def jumps():
+    """2,500 keys under `a/`, put by plain Swift calls, and others beside them, put by requests, in one run."""
+    put = {"a": b"1", "a/": b"", "a/\U0010ffff": b"22", "a/" + "\U0010ffff" * 255: b"333", "a0": b"4444", "b": b"55555"}
+    objects = {**put, **{f"a/{n:04}": b"" for n in range(2500)}}
+    stamp = f"binary/octet-stream;s3={hashlib.md5(b'').hexdigest()}.1369353600.-"
+    lines = ["# Listings that go on behind a common prefix: written by bench/listing-cases.py, which says where the replies and the numbers of", "# calls come from.", ""]
+    made = setup(random.Random(1), "photos", put)
+    lines += made[:-2] + [f"files photos 2500 {stamp} a/"] + made[-2:]
+    last = "a/" + "\U0010ffff" * 255
+    walks = [
+        Listed(1, "/", "", None),  # thousands of keys under a common prefix, and its next sibling
+        Listed(2, "/", "", 1),  # of one item a page
+        Listed(2, "/", "a/1234", 2),  # from inside the common prefix on
+        Listed(1, "/", "a/", None),  # from the common prefix itself on
+        Listed(1, "/", last, None),  # from its last key on
+        Listed(1, "a/", "", None),  # a delimiter of two bytes
+        Listed(1, "/", "", 0),  # nothing is asked for
+    ]
+    lines += jump_case("thousands of keys under a common prefix", "photos", objects, walks)
+    print("\n".join(load_signing().signed(lines)), end="")
+
+
 def main():
     chance = random.Random(1)
     lines = ["# Listings by chance: written by bench/listing-cases.py, which says where the replies come from.", ""]
@@ -169,4 +253,4 @@ def main():
     print("\n".join(load_signing().signed(lines)), end="")
 
 
-main()
+jumps() if sys.argv[1:] == ["jumps"] else main()

@@ -1,13 +1,17 @@
 //! Files that stand on the account before a case, beside what the requests of its setup made.
 use crate::left::{OTHER, ask_store};
-use case_text::{Fault, Given, Told, bytes_of_escaped_text, copy_of_bytes, cut_text};
-use gate_base::{List, drop};
+use case_text::{
+    Fault, Given, Told, bytes_of_escaped_text, copy_of_bytes, cut_text, number_of_text,
+};
+use gate_base::{Bytes, List, drop};
 use slo_manifest::{Form, read};
 use std::alloc::Global;
 use swift_calls::{ReadList, Swift, SwiftReply, SwiftRequest};
 
-/// Puts the files that a setup names by its lines `file CONTAINER NAME TEXT`, each into a container that is made for it; and those
-/// that list segments, by its lines `manifest CONTAINER NAME TYPE TEXT`, each into a container that is there.
+/// Puts the files that a setup names by its lines `file CONTAINER NAME TEXT`, each into a container that is made for it; those that
+/// list segments, by its lines `manifest CONTAINER NAME TYPE TEXT`, each into a container that is there; and by its lines
+/// `files CONTAINER COUNT TYPE FRONT` so many without a byte, into a container that is there, whose names are the front and the
+/// numbers from 0 on, of four digits.
 pub(crate) fn put_files_of_setup<W: Swift>(
     alloc: Global,
     setup: Given<'_>,
@@ -18,6 +22,7 @@ pub(crate) fn put_files_of_setup<W: Swift>(
         match cut_text(line, ' ') {
             ("file", text) => put_file_of_setup(alloc, text, store, told),
             ("manifest", text) => put_manifest_of_setup(alloc, text, store, told),
+            ("files", text) => put_numbered_files_of_setup(alloc, text, store, told),
             _ => {}
         }
     }
@@ -59,6 +64,44 @@ fn put_manifest_of_setup<W: Swift>(alloc: Global, text: &str, store: &mut W, tol
         segments,
     };
     put_for_setup(store, request, told);
+}
+
+fn put_numbered_files_of_setup<W: Swift>(
+    alloc: Global,
+    text: &str,
+    store: &mut W,
+    told: &mut Told,
+) {
+    let (container, text) = cut_text(text, ' ');
+    let (count, text) = cut_text(text, ' ');
+    let (content_type, front) = cut_text(text, ' ');
+    for number in 0..number_of_text(count, told) {
+        let request = SwiftRequest::PutObject {
+            container: copy_of_bytes(alloc, container.as_bytes(), told),
+            name: numbered_name(alloc, front, number, told),
+            content_type: copy_of_bytes(alloc, content_type.as_bytes(), told),
+            meta: List::new(alloc),
+            body: Bytes::new(alloc),
+        };
+        put_for_setup(store, request, told);
+    }
+}
+
+/// The front, and the last four digits of the number.
+fn numbered_name(alloc: Global, front: &str, number: u64, told: &mut Told) -> Bytes {
+    let digits = [
+        last_digit(number / 1000),
+        last_digit(number / 100),
+        last_digit(number / 10),
+        last_digit(number),
+    ];
+    let mut name = copy_of_bytes(alloc, front.as_bytes(), told);
+    told.append(&mut name, &digits);
+    name
+}
+
+fn last_digit(number: u64) -> u8 {
+    b'0' + (number % 10) as u8
 }
 
 fn put_for_setup<W: Swift>(store: &mut W, request: SwiftRequest, told: &mut Told) {
