@@ -1,9 +1,8 @@
 use Rattle.std.specs.Prelude.{None, Some}
-use Rattle.std.proofs.Common.{arith, rules}
+use Rattle.std.proofs.Common.{◌∙◌, arith, rules}
 use Rattle.s3_machine.specs.declared.operation.Op.TheVariants.{GetObject}
 use Rattle.account_calls.specs.Calls.{Any, TellsBucket}
 use Rattle.account_calls.proofs.lemmas.Ends.{answers}
-use Rattle.account_calls.proofs.lemmas.Left.{leaves_then}
 use Rattle.planner.proofs.Finding.{found_nothing, finds_on}
 use Rattle.planner.proofs.Readings.{get_missing}
 use Rattle.planner.proofs.reading.find_object.Goals as goal
@@ -24,4 +23,4 @@ pub returns-in_default-clause-account : goal.returns-in_default-clause-account
 returns-in_default-clause-account g c = c.in_ok-list.ensures.leaves
 
 pub returns-clause-account : goal.returns-clause-account
-returns-clause-account g c = leaves_then _ _ _ c.in_ok-list.ensures.asks.grows.on.observable c.in_ok-list.ensures.leaves c.find_object_within.ensures.account
+returns-clause-account g c = λ observable. c.find_object_within.ensures.account (c.in_ok-list.ensures.asks.grows.on.observable observable) ∙ c.in_ok-list.ensures.leaves observable

@@ -1,3 +1,4 @@
+use Rattle.std.proofs.Common.{refl}
 use Rattle.account_calls.proofs.lemmas.One.{not_asked}
 use Rattle.planner.proofs.Finding.{piece_asked, piece_lost}
 use Rattle.planner.proofs.Unchanged.{piece_of_file}
@@ -33,4 +34,4 @@ returns-clause-account g c = c.in_ok-told.ensures.leaves
 
 pub returns-clause-unchanged : goal.returns-clause-unchanged
 returns-clause-unchanged g c =
-    piece_of_file c.args.found.now c.args.size c.in_ok-bucket.ensures c.in_ok-key.ensures c.as_slice.ensures c.in_ok-told.told c.in_ok-told.ensures.unchanged _ c.piece_of.ensures.end
+    piece_of_file c.args.found.now c.args.size (g.W.Swift.history c.args.state.now.store.now) c.in_ok-bucket.ensures c.in_ok-key.ensures c.as_slice.ensures c.in_ok-told.told c.in_ok-told.ensures.unchanged _ c.piece_of.ensures.end
