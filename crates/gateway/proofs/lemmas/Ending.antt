@@ -26,7 +26,7 @@ use Rattle.gateway.proofs.lemmas.Order.{exchanges_order_faults}
 -- ---- a reply that the store is inconsistent
 
 by_machine : {settings : Settings} {h : History} {p q : ℕ} {op : Op} {label : Label} {takes : ℕ} {reply : Reply} → AnswersBy settings h p q op label takes reply → reply ≢ Refused InconsistentStore
-by_machine {settings = settings} {h = h} {p = p} {q = q} {op = op} {label = label} {reply = reply} (machine all step) = (machine_reply settings (s3_state (h.account_at p)) op label reply (s3_state (h.account_at q)) step).2
+by_machine {settings = settings} {h = h} {p = p} {q = q} {op = op} {label = label} {reply = reply} (machine all step) says = (machine_reply settings (s3_state (h.account_at p)) op label reply (s3_state (h.account_at q)) step).2 says
 by_machine (unavailable is failed old) says = cc
 by_machine (memory is old) says = cc
 
@@ -41,7 +41,7 @@ performs_consistent (answered settled answers beside bound) = by_machine answers
 -- it comes over no observable store whose account is consistent
 replies_consistent : {settings : Settings} {h : History} {old new : StoreCursor} {span : Span} {request : Request} {label : Label} {reply : Reply} → Replies settings h old span new request label reply → reply ≢ Refused InconsistentStore
 replies_consistent (refused code means is proper sound same takes) says = let same : code ≡ InconsistentStore = cc in proper.consistent same
-replies_consistent (performed op means performs caused known) = performs_consistent performs
+replies_consistent (performed op means performs caused known) says = performs_consistent performs says
 
 -- ---- the end of a connection whose request was answered in whole
 
@@ -62,7 +62,7 @@ due_end end resolves (out_of_memory text is) = let same : ended.Memory ≡ end =
 
 -- it is that of a read that broke off
 only_parted : {service : Service} {R : ReplyRelation} {connection : ℕ} {last : ConnectionCursor} {new : Progress} {spans : List Span} (end : Ended) (P : Type 0) → is_store_end end ≡ true
-    → ({request : Request} {label : Label} {span : Span} {sent sent' : List Piece} → PartExchange R connection last.progress.store span new.store request label end sent sent' → P)
+    → ((request : Request) (label : Label) (span : Span) (sent sent' : List Piece) → PartExchange R connection last.progress.store span new.store request label end sent sent' → P)
     → Ends service R connection end last new spans → P
 only_parted end P is by (over e front same) = absurd (let no : true ≡ false = sym is ∙ ap is_store_end e in cc)
 only_parted end P is by (cut e front same) = absurd (let no : true ≡ false = sym is ∙ ap is_store_end e in cc)
@@ -71,7 +71,7 @@ only_parted end P is by (unread heard e only owed sends) = absurd (let no : true
 only_parted end P is by (unheard e only owed) = absurd (let no : true ≡ false = sym is ∙ ap is_store_end e in cc)
 only_parted end P is by (untold heard e only owed sends) = absurd (let no : true ≡ false = sym is ∙ ap is_store_end e in cc)
 only_parted end P is by (broken span e breaks) = absurd (let no : true ≡ false = sym is ∙ ap is_store_end e in cc)
-only_parted end P is by (parted span parts) = by parts.exchange
+only_parted {new = new} end P is by (parted span parts) = by parts.request parts.label span parts.heard new.sent parts.exchange
 
 rose_behind : (first before now : ℕ) → first ≤ before → Rose before now → Rose first now
 rose_behind first before now near rose = omega arith
@@ -80,12 +80,12 @@ pub failed_store_rose : {service : Service} {R : ReplyRelation} {connection : �
     → Rose old.progress.store.faults new.store.faults
 failed_store_rose {old = old} {new = new} trace =
     only_parted ended.StoreFailed (Rose old.progress.store.faults new.store.faults) refl
-    (λ exchange. rose_behind old.progress.store.faults trace.last.progress.store.faults new.store.faults (exchanges_order_faults trace.exchanges) exchange.cause.1)
+    (λ request label span sent sent' exchange. rose_behind old.progress.store.faults trace.last.progress.store.faults new.store.faults (exchanges_order_faults trace.exchanges) exchange.cause.1)
     trace.ends
 
 pub found_consistent : {service : Service} {h : History} {connection : ℕ} {container name : List ℕ} {old : ConnectionCursor} {spans : List Span} {new : Progress}
     → ConnectionTrace service (Replies service.settings h) connection (ended.Inconsistent container name) old spans new → ⊥
-found_consistent {container = container} {name = name} trace = only_parted (ended.Inconsistent container name) ⊥ refl (λ exchange. replies_consistent exchange.fails exchange.breaks) trace.ends
+found_consistent {container = container} {name = name} trace = only_parted (ended.Inconsistent container name) ⊥ refl (λ request label span sent sent' exchange. replies_consistent exchange.fails exchange.breaks) trace.ends
 
 -- where no request was answered ServiceUnavailable, none ends so
 pub no_store_end : {service : Service} {h : History} {connection : ℕ} {old : ConnectionCursor} {spans : List Span} {new : Progress} (end : Ended)
@@ -95,6 +95,6 @@ no_store_end ended.Closed trace = refl
 no_store_end (ended.CutShort place) trace = refl
 no_store_end (ended.Refused kind place) trace = refl
 no_store_end ended.LineFailed trace = refl
-no_store_end ended.StoreFailed trace = only_parted ended.StoreFailed (true ≡ false) refl (λ exchange. absurd (exchange.fails.available exchange.breaks)) trace.ends
-no_store_end (ended.Inconsistent container name) trace = only_parted (ended.Inconsistent container name) (true ≡ false) refl (λ exchange. absurd (replies_consistent exchange.fails.replies exchange.breaks)) trace.ends
+no_store_end ended.StoreFailed trace = only_parted ended.StoreFailed (true ≡ false) refl (λ request label span sent sent' exchange. absurd (exchange.fails.available exchange.breaks)) trace.ends
+no_store_end (ended.Inconsistent container name) trace = only_parted (ended.Inconsistent container name) (true ≡ false) refl (λ request label span sent sent' exchange. absurd (replies_consistent exchange.fails.replies exchange.breaks)) trace.ends
 no_store_end ended.Memory trace = refl
