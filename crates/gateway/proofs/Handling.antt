@@ -1,20 +1,17 @@
 -- One request answered: what was sent for it, and the exchange that it is.
-use Rattle.std.proofs.Common.{◌≡◌, ◌≢◌, ◌⊎◌, ℕ, List, [], ◌∷◌, ◌++◌, Bool, false, Option, Some, IsTrue, refl, sym, ap, subst, ◌∙◌, inl, inr, is_some}
+use Rattle.std.proofs.Common.{◌≡◌, ◌≢◌, ◌⊎◌, ℕ, List, [], Bool, false, Option, IsTrue, refl, sym, ap, subst, ◌∙◌, inl, inr, is_some}
 use Rattle.gate_base.specs.declared.caller.Caller.{Caller}
 use Rattle.gate_base.specs.declared.outside.Piece.{Piece}
 use Rattle.gate_base.specs.Line.{LineModel}
 use Rattle.gate_base.specs.Transcript.{Transcript, with_piece}
 use Rattle.s3_machine.specs.declared.operation.Label.{Label}
-use Rattle.s3_machine.specs.declared.operation.Op.{Op}
 use Rattle.s3_machine.specs.declared.operation.Reply.{Reply}
 use Rattle.s3_machine.specs.declared.operation.Reply.TheVariants as answer
 use Rattle.s3_machine.specs.declared.operation.Settings.{Settings}
 use Rattle.swift_calls.specs.History.{History}
 use Rattle.account_calls.specs.declared.state.Known.{Known}
-use Rattle.account_calls.specs.declared.state.Known.TheVariants as known
 use Rattle.account_calls.specs.Calls.{GoesOn, Met}
 use Rattle.account_calls.specs.Known.{IsKnown, Knows}
-use Rattle.planner.specs.declared.reading.Found.{Found}
 use Rattle.planner.specs.declared.reading.Reading.{Reading}
 use Rattle.planner.specs.declared.reading.Reading.TheVariants.{Whole, Pieces}
 use Rattle.planner.specs.Reading.{LeavesBytes, gives_bytes}
@@ -31,7 +28,7 @@ use Rattle.gateway.specs.Handled.{HandledOnce}
 use Rattle.gateway.specs.Reading.{Reads, RepliedOrReads, SendsObject, SendsReading, SendsReply}
 use Rattle.gateway.specs.Request.{Request, reply_text}
 use Rattle.gateway.specs.Stands.{Stands}
-use Rattle.gateway.proofs.Sending.{Responds, Stayed, object_stays, object_responds, whole_responds}
+use Rattle.gateway.proofs.Sending.{Responds, object_stays, object_responds, whole_responds}
 
 handled_of : (R : ReplyRelation) (connection : ℕ) (old new : StoreCursor) (moments draws moments' draws' : List ℕ) (asks : ℕ → Request) (label : Label) (sent sent' : List Piece) → LabelGiven moments draws moments' draws' (asks label.moment).caller label
     → (handled : Handled) → Responds R connection old new (asks label.moment) label sent sent' handled → HandledOnce R connection (progress old moments draws sent) (progress new moments' draws' sent') asks handled

@@ -1,5 +1,5 @@
 -- What writes do to a line, one after another.
-use Rattle.std.proofs.Common.{◌≡◌, ◌≤◌, Bool, false, IsTrue, refl, ◌∙◌, arith}
+use Rattle.std.proofs.Common.{Bool, false, IsTrue, refl, ◌∙◌, arith}
 use Rattle.gate_base.specs.Line.{LineModel, OnlyWrites}
 use Rattle.gateway.proofs.Looping.{line_serves_on}
 

@@ -27,7 +27,7 @@ use Rattle.recovery.specs.declared.state.SettleFault.TheVariants.{Failed, Memory
 use Rattle.recovery.specs.Settling.{settle_fault, as_plan, SettlesIt, Settles}
 use Rattle.s3_requests.specs.declared.meant.Meant.{Meant}
 use Rattle.s3_requests.specs.declared.meant.Meant.TheVariants as meant
-use Rattle.gateway.specs.Exchange.{AsksBytes, SettledBy, IsFault, unsettled, answered, Operated}
+use Rattle.gateway.specs.Exchange.{AsksBytes, IsFault, unsettled, answered, Operated}
 use Rattle.account_calls.proofs.lemmas.Told.{told_as}
 use Rattle.planner.specs.declared.reading.Reading.{Reading}
 use Rattle.planner.specs.declared.reading.Reading.TheVariants.{Whole, Pieces}

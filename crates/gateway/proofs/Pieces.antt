@@ -1,5 +1,5 @@
 -- The pieces of a reply.
-use Rattle.std.specs.Prelude.{◌≡◌, ◌≢◌, ◌≤◌, ◌<◌, ◌⊎◌, ◌+◌, ◌||◌, ℕ, Bool, true, false, IsTrue, is_some, List, [], ◌∷◌, ◌++◌, length, map, take, drop, codes, decimal, flat_map, Option, Some, None, if◌then◌else◌}
+use Rattle.std.specs.Prelude.{◌≡◌, ◌≤◌, ◌+◌, ◌||◌, ℕ, Bool, true, false, List, [], ◌∷◌, ◌++◌, length, map, take, drop, codes, decimal, flat_map, if◌then◌else◌}
 use Rattle.std.specs.List.{All, list_any}
 use Rattle.std.proofs.Common.{refl, sym, ap, subst, ◌∙◌, inl, inr, arith, append-nil, append_assoc}
 use Rattle.std.proofs.lemmas.List.{length-append, take-append-drop}
@@ -7,9 +7,9 @@ use Rattle.std.proofs.lemmas.List.Elements.{All-nil, All-cons, All-append, All-w
 use Rattle.gate_base.specs.declared.outside.Piece.{Piece}
 use Rattle.gate_base.specs.declared.page.Page.{Page}
 use Rattle.gate_base.specs.declared.page.Pair.{Pair}
-use Rattle.gate_base.specs.Transcript.{Transcript, with_piece, with_fault, SendsPrefix}
+use Rattle.gate_base.specs.Transcript.{Transcript, with_piece, SendsPrefix}
 use Rattle.http_wire.specs.FirstMessage.{is_head}
-use Rattle.http_wire.specs.Print.{page_text, length_line, sent_body, is_bodiless, is_printed_content_length, status_line, header_line, closing_line}
+use Rattle.http_wire.specs.Print.{is_bodiless, is_printed_content_length, status_line, header_line, closing_line}
 use Rattle.s3_machine.specs.declared.operation.Label.{Label}
 use Rattle.s3_pages.specs.Pages.{header, object_headers, object_page, common_headers, head_headers, meta_header, range_headers, read_status}
 use Rattle.planner.specs.declared.reading.Found.{Found}

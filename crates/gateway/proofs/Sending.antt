@@ -1,16 +1,14 @@
 -- What is sent for a request, and the exchange that it is.
-use Rattle.std.specs.Prelude.{◌≡◌, ◌≢◌, ◌≤◌, ◌<◌, ◌⊎◌, ◌+◌, ◌-◌, ℕ, Bool, true, false, IsTrue, is_some, List, [], ◌∷◌, ◌++◌, length, take, drop, replicate, All, flat_map, Option, Some, None, Result, Ok, Err}
-use Rattle.std.specs.List.{list_any}
+use Rattle.std.specs.Prelude.{◌≡◌, ◌≢◌, ◌≤◌, ◌<◌, ◌⊎◌, ◌+◌, ◌-◌, ℕ, Bool, true, false, IsTrue, is_some, List, [], ◌∷◌, ◌++◌, length, drop, replicate, Option, Some, None, Err}
 use Rattle.std.proofs.Common.{refl, sym, ap, subst, ◌∙◌, inl, inr, arith, append-nil, append_assoc}
 use Rattle.std.proofs.lemmas.List.{length-append, length-replicate, nil_from_length}
-use Rattle.std.proofs.lemmas.List.Elements.{All-nil, All-cons, All-append, All-weaker}
 use Rattle.gate_base.specs.Causes.{Rose}
 use Rattle.gate_base.specs.declared.outside.Piece.{Piece}
 use Rattle.gate_base.specs.Line.{LineModel}
-use Rattle.gate_base.specs.Transcript.{Transcript, with_piece, with_fault, SendsPrefix}
+use Rattle.gate_base.specs.Transcript.{Transcript, with_piece, SendsPrefix}
 use Rattle.http_wire.specs.FirstMessage.{is_head}
 use Rattle.http_wire.specs.Print.{memory_reply}
-use Rattle.s3_machine.specs.declared.code.Code.TheVariants.{ServiceUnavailable, InconsistentStore}
+use Rattle.s3_machine.specs.declared.code.Code.TheVariants.{ServiceUnavailable}
 use Rattle.s3_machine.specs.declared.operation.Label.{Label}
 use Rattle.s3_machine.specs.declared.operation.Op.{Op}
 use Rattle.s3_machine.specs.declared.operation.Op.TheVariants.{GetObject}
@@ -19,7 +17,7 @@ use Rattle.s3_machine.specs.declared.operation.Reply.TheVariants as answer
 use Rattle.s3_machine.specs.declared.operation.Settings.{Settings}
 use Rattle.s3_machine.specs.State.{State}
 use Rattle.s3_machine.specs.Step.{S3Step}
-use Rattle.swift_calls.specs.History.{History, budget, present}
+use Rattle.swift_calls.specs.History.{History, present}
 use Rattle.upload_records.specs.Native.{IsSettled, s3_state}
 use Rattle.account_calls.specs.declared.fault.PlanFault.{PlanFault}
 use Rattle.account_calls.specs.declared.fault.PlanFault.TheVariants as fault
@@ -29,13 +27,11 @@ use Rattle.account_calls.specs.Answers.{steps_of, beside_of, SaysBeside, pieces}
 use Rattle.account_calls.specs.Calls.{always, Asks, Given, GoesOn, Met, Tells}
 use Rattle.account_calls.specs.Fault.{CausesFault}
 use Rattle.account_calls.specs.Plan.{reply_of}
-use Rattle.account_calls.specs.Known.{IsKnown, Knows}
+use Rattle.account_calls.specs.Known.{IsKnown}
 use Rattle.account_calls.specs.Told.{CountsOne}
 use Rattle.account_calls.proofs.lemmas.Idle.{goes_trans}
 use Rattle.planner.specs.declared.reading.Found.{Found}
-use Rattle.planner.specs.declared.reading.Reading.{Reading}
-use Rattle.planner.specs.declared.reading.Reading.TheVariants.{Whole, Pieces}
-use Rattle.planner.specs.Reading.{found_reply, IsReadBy, HasFound, TellsPiece, AreFirst, gives_bytes}
+use Rattle.planner.specs.Reading.{found_reply, IsReadBy, HasFound, TellsPiece, gives_bytes}
 use Rattle.s3_requests.specs.declared.meant.Meant.{Meant}
 use Rattle.s3_requests.specs.declared.meant.Meant.TheVariants as meant
 use Rattle.gateway.specs.declared.ended.Ended.{Ended}
@@ -43,11 +39,10 @@ use Rattle.gateway.specs.declared.ended.Ended.TheVariants as ended
 use Rattle.gateway.specs.declared.handle.Handled.{Handled}
 use Rattle.gateway.specs.declared.handle.Handled.TheVariants.{Served, Broken, Parted}
 use Rattle.gateway.specs.declared.send.Stop.TheVariants as stop
-use Rattle.gateway.specs.Connection.{sent_by}
-use Rattle.gateway.specs.Exchange.{ReplyRelation, StoreCursor, store_cursor, Span, IsSpan, IsCaused, Asked, asked_by, Performs, answered, Replies, refused, performed, performed_any, RepliesBy, RepliesExpected, Where, ExpectedBytes, printed, out_of_memory, IsPiece, joined, Sends, SendsPart, Paced, SendsPieces, AsksBytes, ReadIsPaced, Exchange, CutExchange, PartExchange, BreaksOff, IsBrokenBy, ReadsObject, Operated}
-use Rattle.gateway.specs.Reading.{Reads, Got, BodySent, BodyCut, SentSoFar, SendsBody, SendsBehind, SendsObject, head_sent, head_unsent, head_cut, SendsReply, head_text, ended_by}
-use Rattle.gateway.specs.Request.{Request, reply_text, print}
-use Rattle.gateway.specs.Write.{IsReplyText, CutsHead}
+use Rattle.gateway.specs.Exchange.{ReplyRelation, StoreCursor, store_cursor, Span, IsSpan, IsCaused, Asked, asked_by, answered, Replies, refused, performed, performed_any, RepliesBy, RepliesExpected, Where, printed, out_of_memory, Sends, SendsPart, SendsPieces, AsksBytes, ReadIsPaced, Exchange, CutExchange, PartExchange, BreaksOff, IsBrokenBy, ReadsObject}
+use Rattle.gateway.specs.Reading.{Reads, Got, SentSoFar, SendsBody, SendsBehind, SendsObject, head_sent, head_unsent, head_cut, SendsReply, head_text, ended_by}
+use Rattle.gateway.specs.Request.{Request, print}
+use Rattle.gateway.specs.Write.{CutsHead}
 use Rattle.gateway.proofs.Operating.{rose_later}
 use Rattle.gateway.proofs.Pieces.{one_piece, part_of, part_longer, sent_behind, cut_behind, pieces_behind, counted_behind, head_and_body}
 use Rattle.gateway.specs.Stands.{SpanPasses, Stood, Stands}

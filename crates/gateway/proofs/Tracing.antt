@@ -1,43 +1,36 @@
 -- A read, as far as bytes of its object were got: what it would be answered with all of them, and what if no more are got.
-use Rattle.std.specs.Prelude.{◌≡◌, ◌≢◌, ◌≤◌, ◌<◌, ◌⊎◌, ◌+◌, ◌*◌, ◌-◌, ℕ, min, Bool, true, false, IsTrue, List, [], ◌++◌, length, take, drop, replicate, Option, Some, None, Result, Ok, Err}
+use Rattle.std.specs.Prelude.{◌≡◌, ◌≢◌, ◌≤◌, ◌<◌, ◌+◌, ◌*◌, ◌-◌, ℕ, min, Bool, true, false, List, [], ◌++◌, length, take, drop, Option, Some, None, Ok, Err}
 use Rattle.std.specs.FinMap.{get}
 use Rattle.std.specs.Option.{option_map}
-use Rattle.std.proofs.Common.{refl, sym, ap, subst, ◌∙◌, inl, inr, arith}
-use Rattle.std.proofs.lemmas.List.{take-append-drop, length-append, drop-drop, length-take-le}
+use Rattle.std.proofs.Common.{refl, sym, ap, subst, ◌∙◌, arith}
+use Rattle.std.proofs.lemmas.List.{take-append-drop, length-append, drop-drop}
 use Rattle.std.proofs.Math.Seq.{take-add, take-append_seam}
-use Rattle.gate_base.specs.Causes.{Rose}
-use Rattle.s3_machine.specs.declared.code.Code.TheVariants.{ServiceUnavailable, InconsistentStore}
+use Rattle.s3_machine.specs.declared.code.Code.TheVariants.{ServiceUnavailable}
 use Rattle.s3_machine.specs.declared.operation.Label.{Label}
 use Rattle.s3_machine.specs.declared.operation.Op.{Op}
-use Rattle.s3_machine.specs.declared.operation.Op.TheVariants.{GetObject}
 use Rattle.s3_machine.specs.declared.operation.Reply.{Reply}
 use Rattle.s3_machine.specs.declared.operation.Reply.TheVariants.{Refused, Memory}
 use Rattle.s3_machine.specs.declared.operation.Settings.{Settings}
-use Rattle.s3_machine.specs.State.{Object, State}
+use Rattle.s3_machine.specs.State.{State}
 use Rattle.s3_machine.specs.Step.{S3Step, head_of}
-use Rattle.swift_calls.specs.Account.{SwiftAccount}
-use Rattle.swift_calls.specs.History.{History, budget, present, Extends}
-use Rattle.upload_records.specs.Native.{IsSettled, object_at, s3_state}
-use Rattle.upload_records.specs.Consistent.{IsConsistent}
+use Rattle.swift_calls.specs.History.{History, present, Extends}
+use Rattle.upload_records.specs.Native.{object_at, s3_state}
 use Rattle.account_calls.specs.declared.fault.PlanFault.{PlanFault}
 use Rattle.account_calls.specs.declared.fault.PlanFault.TheVariants as fault
 use Rattle.account_calls.specs.declared.state.Known.{Known}
-use Rattle.account_calls.specs.declared.state.Known.TheVariants as known
-use Rattle.account_calls.specs.Answers.{most_calls, steps_of, is_old_if_failed, is_old_if_out_of_memory, OldIf, AnswersBy, machine, unavailable, memory, Answers, pieces, beside_of, SaysBeside}
-use Rattle.account_calls.specs.Calls.{Bound, always, amount, Any, Asks, Given, GoesOn, Keeps, Met, Tells}
-use Rattle.account_calls.specs.Fault.{CausesFault}
+use Rattle.account_calls.specs.Answers.{most_calls, steps_of, is_old_if_failed, is_old_if_out_of_memory, OldIf, machine, unavailable, memory, Answers, pieces}
+use Rattle.account_calls.specs.Calls.{always, amount, Any, Asks, Given, GoesOn, Keeps, Met, Tells}
 use Rattle.account_calls.specs.Plan.{reply_of}
 use Rattle.account_calls.specs.Known.{IsKnown}
 use Rattle.account_calls.specs.Stutters.{Stutters, OldBefore, LastFailed}
-use Rattle.account_calls.specs.Told.{Told, Idles, CountsOne}
 use Rattle.account_calls.proofs.lemmas.Agree.{quiet_agree, quiet_trans, failed_after, passes_at_once, last_within}
 use Rattle.account_calls.proofs.lemmas.Idle.{goes_trans}
-use Rattle.account_calls.proofs.lemmas.Told.{told_as, told_by, told_none, told_trans, met_here, same_here}
+use Rattle.account_calls.proofs.lemmas.Told.{told_by, told_none, told_trans, met_here, same_here}
 use Rattle.planner.specs.declared.reading.Found.{Found}
-use Rattle.planner.specs.Reading.{found_reply, IsReadBy, IsFound, HasFound, AreFirst, HasBody, Finds, TellsPiece}
-use Rattle.gateway.specs.Exchange.{SettledBy, StoreCursor, store_cursor, Span, IsSpan, IsCaused, Asked, Performs, answered, Operated}
-use Rattle.gateway.specs.Reading.{Readied, HasSoFar, Reads, Got}
-use Rattle.gateway.proofs.Operating.{from_present, rose_later}
+use Rattle.planner.specs.Reading.{found_reply, HasFound, AreFirst, HasBody, TellsPiece}
+use Rattle.gateway.specs.Exchange.{SettledBy}
+use Rattle.gateway.specs.Reading.{HasSoFar, Reads, Got}
+use Rattle.gateway.proofs.Operating.{from_present}
 use Rattle.gateway.proofs.lemmas.Map.{settled_by_agree}
 
 -- ---- bytes of an object

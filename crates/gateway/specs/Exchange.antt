@@ -1,5 +1,5 @@
 -- One request with its reply. What is said of the reply is a relation of the store cursors before and after it. Source: this profile.
-use Rattle.std.specs.Prelude.{◌≡◌, ◌≢◌, ◌⊎◌, ◌<◌, ◌≤◌, ℕ, ◌+◌, Bool, true, false, IsTrue, List, [], ◌∷◌, ◌++◌, length, All, flat_map, Option, Some, None}
+use Rattle.std.specs.Prelude.{◌≡◌, ◌≢◌, ◌⊎◌, ◌≤◌, ℕ, ◌+◌, Bool, true, false, IsTrue, List, [], ◌∷◌, ◌++◌, length, All, flat_map, Option, Some, None}
 use Rattle.gate_base.specs.Causes.{Rose}
 use Rattle.gate_base.specs.declared.outside.Piece.{Piece}
 use Rattle.s3_machine.specs.declared.code.Code.{Code}

@@ -1,5 +1,5 @@
 -- How a connection ends because of the store.
-use Rattle.std.specs.Prelude.{◌≡◌, ◌≢◌, ◌≤◌, ◌⊎◌, ℕ, Bool, true, false, cond, List, Option, Some, None}
+use Rattle.std.specs.Prelude.{◌≡◌, ◌≢◌, ◌≤◌, ◌⊎◌, ℕ, Bool, true, false, cond, List, Some, None}
 use Rattle.std.proofs.Common.{refl, sym, ap, ◌∙◌, inl, inr, arith}
 use Rattle.gate_base.specs.Causes.{Rose}
 use Rattle.gate_base.specs.declared.outside.Piece.{Piece}
@@ -18,8 +18,8 @@ use Rattle.account_calls.specs.Stutters.{LastFailed}
 use Rattle.gateway.specs.declared.ended.Ended.{Ended}
 use Rattle.gateway.specs.declared.ended.Ended.TheVariants as ended
 use Rattle.gateway.specs.declared.service.Service.{Service}
-use Rattle.gateway.specs.Connection.{Progress, ConnectionCursor, Resolves, read, rejected, Serves, Ends, over, cut, served, unread, unheard, untold, broken, parted, ConnectionTrace, is_store_end}
-use Rattle.gateway.specs.Exchange.{ReplyRelation, StoreCursor, Span, ExpectedBytes, printed, out_of_memory, Performs, unsettled, answered, Replies, refused, performed, RepliesBy, FaultFreeReplies, PartExchange}
+use Rattle.gateway.specs.Connection.{Progress, ConnectionCursor, Resolves, read, rejected, Ends, over, cut, served, unread, unheard, untold, broken, parted, ConnectionTrace, is_store_end}
+use Rattle.gateway.specs.Exchange.{ReplyRelation, StoreCursor, Span, ExpectedBytes, printed, out_of_memory, Performs, unsettled, answered, Replies, refused, performed, FaultFreeReplies, PartExchange}
 use Rattle.gateway.specs.Request.{Request}
 use Rattle.gateway.proofs.lemmas.Order.{exchanges_order_faults}
 

@@ -1,4 +1,4 @@
-use Rattle.std.proofs.Common.{◌≡◌, subst, refl}
+use Rattle.std.proofs.Common.{subst, refl}
 use Rattle.account_calls.proofs.lemmas.Idle.{goes_none}
 use Rattle.gateway.specs.ResolvedRequest.{Understands}
 use Rattle.s3_requests.specs.Proper.{IsProperMeant}
