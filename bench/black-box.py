@@ -142,6 +142,12 @@ class Program:
     def signal(self, number):
         self.process.send_signal(number)
 
+    def processor(self):
+        """The seconds of a processor that it has taken."""
+        with open(f"/proc/{self.process.pid}/stat") as file:
+            fields = file.read().rpartition(")")[2].split()
+        return (int(fields[11]) + int(fields[12])) / os.sysconf("SC_CLK_TCK")
+
 
 class Gate(Program):
     """`s3gate serve` over the store at that place, with further words."""
@@ -738,6 +744,19 @@ def a_client_that_takes_no_reply_is_dropped(check):
             check("while a client takes no reply another is served at last", FOUND, both(gate.ask(*GET, owner=False)))
             time.sleep(max(0, IDLE * 3 - client.took()))  # the system may take some of it once more
             check("and the rest of the first one's reply is dropped", True, len(client.rest()) < len(large))
+
+
+@group()
+def a_client_that_asks_ahead_and_takes_nothing_is_dropped(check):
+    """Its next request is there, and its reply isn't taken: it is given up all the same, and the program waits meanwhile."""
+    large = bytes(LARGEST // 2)
+    with Store(account=account({b"a": b"abc", b"large": large})) as store, Gate(store.text, S3GATE_IDLE=str(IDLE)) as gate:
+        with Client(gate, request("GET", "/photos/large", owner=False) * 2, room=4096) as client:
+            time.sleep(IDLE * 3)
+            spent = gate.processor()
+            time.sleep(1)
+            check("it waits without work", True, gate.processor() - spent < 0.5)
+            check("and the rest of its replies is dropped", True, len(client.rest()) < len(large))
 
 
 @group()

@@ -1,5 +1,5 @@
 //! A reply in several pieces, over sockets and with a log. One thread is client and gateway, so the client speaks first.
-ghost use Rattle.std.specs.Prelude.{IsTrue};
+ghost use Rattle.std.specs.Prelude.{IsTrue, false, []};
 
 use crate::loopback::{begin, client, gets, hears, listen};
 use gate_base::{Failed, Line, NoCount, Sink};

@@ -453,11 +453,18 @@ impl<S: Read + Write + OpenStream + Drop> Client<S> {
         self.phase == Phase::Waits
     }
 
+    /// Whether it takes nothing of what is kept for it until its end. Then its next request isn't given either.
+    fn is_stuck(&self, end: Duration, now: Duration) -> bool {
+        !self.unsent.is_empty() && end <= now
+    }
+
     /// Why it gives nothing now. It may be silent for the limit.
     pub(crate) fn lack(&self, now: Duration, limit: Duration) -> Lack {
         let given = self.is_given();
         let end = self.silent_end(limit);
-        if self.ready || !self.over && now < end {
+        if given && self.is_stuck(end, now) {
+            Lack::End
+        } else if self.ready || !self.over && now < end {
             let wait = end.saturating_sub(now);
             if given {
                 Lack::Next(wait)

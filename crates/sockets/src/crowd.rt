@@ -356,15 +356,16 @@ impl<R: Net + Clock + Drop> Crowd<R> {
     }
 
     /// Waits for whatever comes first, at most so long, and does what is due with each client of which something came.
+    /// Only then are others accepted: a place is taken of one that is idle, and what it has just sent must be known by then.
     fn look(&mut self, wait: Duration) -> io::Result<()> {
         let wait = self.wait_within(wait);
         self.watch.wait(wait)?;
         self.now = self.rt.monotonic()?;
         self.mark();
+        self.attend_stirred();
         if self.waiting && !self.ending {
             self.accept();
         }
-        self.attend_stirred();
         if self.due <= self.now {
             self.attend_all();
         }
