@@ -1,5 +1,6 @@
 #!/usr/bin/env bash
-# Proves and builds s3gate where that is still to be done, and serves the requests of a file, signed for this moment.
+# Proves and builds s3gate where that is still to be done, serves the requests of a file, signed for this moment, and shows each
+# beside its reply.
 #
 #   examples/run.sh REQUESTS.http
 set -euo pipefail
@@ -7,4 +8,9 @@ set -euo pipefail
 requests="$(realpath "$1")"
 cd "$(dirname "$0")/.."
 (cd crates/s3gate && env -u S3GATE_KEYS rt run -- session </dev/null)
-examples/sign.py "$requests" | S3GATE_KEYS=examples/keys.txt crates/s3gate/out/s3gate session
+replies="$(mktemp)"
+trap 'rm -f "$replies"' EXIT
+status=0
+examples/sign.py "$requests" | S3GATE_KEYS=examples/keys.txt crates/s3gate/out/s3gate session >"$replies" || status=$?
+examples/beside.py "$requests" "$replies"
+exit "$status"

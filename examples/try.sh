@@ -1,6 +1,6 @@
 #!/usr/bin/env bash
-# A quick try: compiles s3gate without its proofs, in a minute or two, and serves the requests of a file, signed for this
-# moment. What examples/run.sh builds is proved.
+# A quick try: compiles s3gate without its proofs, in a minute or two, serves the requests of a file, signed for this moment, and
+# shows each beside its reply. What examples/run.sh builds is proved.
 #
 #   examples/try.sh REQUESTS.http
 #
@@ -10,8 +10,8 @@ set -euo pipefail
 [ $# -eq 1 ] || { echo "usage: try.sh REQUESTS.http" >&2; exit 1; }
 requests="$(realpath "$1")"
 cd "$(dirname "$0")/.."
+top="$PWD"
 echo "Nothing is proved in this try: s3gate is compiled without its proofs, and checked only as it runs."
-keys="$PWD/examples/keys.txt"
 room="$(mktemp -d)"
 trap 'rm -rf "$room"' EXIT
 mkdir "$room/.git"
@@ -21,4 +21,7 @@ sed -i 's/match variable(rt, KEYS)? {/match Some(String::from_str(rt.alloc(), "k
 grep -q '"keys.txt"' "$main" || { echo "try.sh: main takes its keys otherwise, so change the line of sed" >&2; exit 1; }
 examples/sign.py "$requests" >"$room/requests"
 cd "$room/crates/s3gate"
-rt try --data keys.txt="$keys" -- session <"$room/requests"
+status=0
+rt try --data keys.txt="$top/examples/keys.txt" -- session <"$room/requests" >"$room/replies" || status=$?
+"$top/examples/beside.py" "$requests" "$room/replies"
+exit "$status"
