@@ -22,8 +22,10 @@ import os
 import queue
 import random
 import re
+import shutil
 import signal
 import socket
+import sqlite3
 import struct
 import subprocess
 import sys
@@ -173,12 +175,12 @@ class Gate(Program):
 
 
 class Swiftd(Program):
-    """`swiftd` with the account and the token of the scripted store."""
+    """`swiftd` with the account and the token of the scripted store, and further words."""
 
-    def __init__(self, connections=1000000, place=None, **variables):
+    def __init__(self, connections=1000000, place=None, words=(), **variables):
         self.place = place or PLACES.take()
         self.text = "%s:%d" % self.place
-        super().__init__([SWIFTD, "--token", TOKEN, "--account", ACCOUNT, "--connections", str(connections)], {"SWIFTD_LISTEN": self.text, "SWIFTD_LOG": "off", **variables})
+        super().__init__([SWIFTD, "--token", TOKEN, "--account", ACCOUNT, "--connections", str(connections), *words], {"SWIFTD_LISTEN": self.text, "SWIFTD_LOG": "off", **variables})
 
     def client(self, *requests):
         return Client(self, *requests)
@@ -439,6 +441,8 @@ def words_and_environment_of_swiftd(check):
         check(f"swiftd without {words[at]}", (2, usage, b""), ran(SWIFTD, words[:at] + words[at + 2 :], SWIFTD_LISTEN=place))
     for at, text in ((1, "a-b"), (1, "a" * 65), (3, ""), (3, "a/b"), (5, "0"), (5, "1000000001")):
         check(f"swiftd {words[at - 1]} {text!r}", (2, usage, b""), ran(SWIFTD, words[:at] + [text] + words[at + 1 :], SWIFTD_LISTEN=place))
+    for path in ([], [""], ["a" * 4097], ["a", "--file", "a"]):
+        check(f"swiftd --file {short(path)}", (2, usage, b""), ran(SWIFTD, [*words, "--file", *path], SWIFTD_LISTEN=place))
 
 
 # The published signature of a GET (Amazon S3 API Reference, "Authenticating requests").
@@ -2524,6 +2528,183 @@ def swiftd_has_limits(check):
             with store.client(swift("GET", lists).replace(b"Host: h", b"Connection: close")) as client:
                 check("of two connections each is served", [200, None], client.replies(2))
         check("and with so many the program ends", (0, b""), store.ended())
+
+
+# swiftd over a file.
+
+# The tables, as any program of SQLite makes them.
+TABLES = """CREATE TABLE containers (name BLOB NOT NULL PRIMARY KEY, readers INTEGER NOT NULL, created INTEGER) STRICT;
+CREATE TABLE objects (container BLOB NOT NULL REFERENCES containers (name) ON DELETE CASCADE, name BLOB NOT NULL, kind INTEGER NOT NULL,
+content_type BLOB NOT NULL, meta BLOB NOT NULL, size INTEGER NOT NULL, hash BLOB NOT NULL, body BLOB NOT NULL, PRIMARY KEY (container, name)) STRICT;"""
+
+
+@group()
+def swiftd_keeps_a_file(check):
+    root = f"/v1/{ACCOUNT}"
+    kept = [swift("GET", f"{root}/b/k"), swift("GET", f"{root}/b/k", [("Range", "bytes=1-1")]), swift("GET", f"{root}/b?format=json&limit=10&marker=&prefix="), swift("GET", f"{root}/b/none"), swift("HEAD", f"{root}/b")]
+    with tempfile.TemporaryDirectory() as folder:
+        file = os.path.join(folder, "store.db")
+        words = ["--file", file]
+        with Swiftd(words=words) as store, store.client(swift("PUT", f"{root}/b", NOBODY), swift("PUT", f"{root}/b/k", [("Content-Type", "t"), ("X-Object-Meta-S3-0", "[a]")], b"abc"), *kept[:3]) as client:
+            check("swiftd: an object is put into a file", [201, 201], client.replies(2))
+            shown = [both(client.reply()) for _ in range(3)]
+            check("and fetched, whole and in part", [(200, b"abc"), (206, b"b")], shown[:2])
+            again = ran(SWIFTD, ["--token", "t", "--account", "a", "--connections", "1", *words], SWIFTD_LISTEN="%s:%d" % PLACES.take())
+            check("the file is one program's", (9, b"", b"swiftd: setup\n--file: in use by another process\n"), again)
+            store.signal(signal.SIGKILL)
+            check("which is killed", (-signal.SIGKILL, b""), store.ended())
+        with Swiftd(1, words=words) as store:
+            with store.client(*kept[:4]) as client:
+                check("the next one has it", shown, [both(client.reply()) for _ in range(3)])
+                check("and nothing else", 404, client.reply().status)
+                client.send(swift("DELETE", f"{root}/b"), swift("PUT", f"{root}/b/k", [("Content-Type", "t")], b"ABCD"), swift("GET", f"{root}/b/k"), swift("DELETE", f"{root}/b/k"), swift("GET", f"{root}/b/k"), swift("DELETE", f"{root}/b"), kept[4])
+                check("what is written over or deleted isn't read again", [409, 201, (200, b"ABCD"), 204, 404, 204, 404], client.replies(2) + [both(client.reply())] + client.replies(3) + [client.reply(True).status])
+            check("it ends", (0, b""), store.ended())
+        with contextlib.closing(sqlite3.connect(file)) as database:
+            check("SQLite finds its file sound and empty", [[("ok",)], [(0,)]], [database.execute(it).fetchall() for it in ("PRAGMA integrity_check", "SELECT count(*) FROM containers")])
+
+
+def bytes_of_case(line):
+    """The bytes of a line that a case is given (docs/TESTING.md)."""
+    kind, _, text = line.partition(" ")
+    if kind == ">x":
+        return bytes.fromhex(text)
+    if kind == ">*":
+        count, _, text = text.partition(" ")
+        return plain_bytes(text) * int(count)
+    return text.encode() + {">": b"\r\n", ">n": b"\n", ">.": b""}[kind]
+
+
+def plain_bytes(text):
+    return re.sub(rb"\\([0-9a-f]{2})", lambda it: bytes.fromhex(it[1].decode()), text.encode())
+
+
+@group()
+def the_cases_of_swiftd_over_a_file(check):
+    with open(os.path.join(ROOT, "crates/cases/data/store_cmd.txt"), encoding="utf-8") as file:
+        lines = [it for it in file.read().split("\n") if it and not it.startswith("#")]
+    cases = [(line, lines[at + 1 :]) for at, line in enumerate(lines) if line == "swiftd --token t --account a --connections 1"]
+    check("there are cases", True, len(cases) > 2)
+    with tempfile.TemporaryDirectory() as folder:
+        for number, (line, rest) in enumerate(cases):
+            end = next(at for at, it in enumerate(rest) if it.startswith("= "))
+            place = PLACES.take()
+            with Program([SWIFTD, *line.split()[1:], "--file", os.path.join(folder, str(number))], {"SWIFTD_LISTEN": "%s:%d" % place, "SWIFTD_LOG": "off"}) as store:
+                store.place = place
+                with Client(store, b"".join(map(bytes_of_case, rest[:end]))) as client:
+                    client.half_close()
+                    check(f"case {number + 1} of swiftd over a file", plain_bytes(rest[end][3:-1]), client.rest())
+                check("and its status", (int(rest[end + 1][2:]), b""), store.ended())
+
+
+def requests_by_chance(count):
+    """So many requests to a store, of few containers and names, so that they meet, behind those that make the containers."""
+    chance, root, tags = random.Random(count), f"/v1/{ACCOUNT}", [(NONE, "/c/none", 0)]
+    boxes = ["c", "d", "e+uploads", "\u00fc"]
+    names = ["k", "a/b", "a/b/c", "a", "a\u0301", "z\U0010ffff", "ab", "a/", "\u00ff", "%", "x" * 200] + [f"p/{at:02}" for at in range(20)]
+    for box in boxes:
+        yield "PUT", f"{root}/{quote(box)}", NOBODY, b""
+    for _ in range(count):
+        box, name, body = chance.choice(boxes), chance.choice(names), chance.randbytes(chance.choice([0, 1, 5, 100, 5000, 70000]))
+        outer, inner = f"{root}/{quote(box)}", f"{root}/{quote(box)}/{quote(name)}"
+        meta = [(f"X-Object-Meta-S3-{at}", chance.choice(["x", "a.b", "12.", "7.ab", "~" * 200])) for at in range(chance.choice([0, 0, 1, 3]))]
+        first, marker, prefix = chance.choice([0, 1, 5, 99, 4095]), chance.choice(["", "", "a", "p/05", "p/19", "z", name]), chance.choice(["", "a", "a/", "p/", "p/1", "z", "\u00ff", "q", name])
+        listed = [chance.choice(tags) for _ in range(chance.choice([1, 2, 5]))]
+        made = chance.choice(
+            [("PUT", inner, [("Content-Type", chance.choice(["t", "text/plain"])), *meta], body)] * 6
+            + [("PUT", inner + "?multipart-manifest=put", [("Content-Type", "t")], json.dumps([{"etag": etag, "path": path, "size_bytes": size} for etag, path, size in listed], separators=(",", ":"), ensure_ascii=False).encode())] * 2
+            + [("GET", inner, [("Range", f"bytes={first}-{first + chance.choice([0, 10, 5000])}")], b"")] * 3
+            + [(method, inner, [], b"") for method in ("GET", "GET", "GET", "HEAD", "HEAD", "DELETE", "DELETE")]
+            + [("GET", f"{outer}?format=json&limit={chance.choice([1, 2, 5, 1000])}&marker={quote(marker, safe='')}&prefix={quote(prefix, safe='')}", [], b"")] * 4
+            + [("PUT", outer, [("X-Container-Read", chance.choice(["", ".r:*,.rlistings"])), ("X-Container-Meta-S3-Created", chance.choice(["0", "7", "253402300799", "253402300800"]))], b"")]
+            + [("POST", outer, [("X-Container-Read", chance.choice(["", ".r:*,.rlistings"]))], b""), ("HEAD", outer, [], b""), ("DELETE", outer, [], b"")]
+            + [("GET", inner + "?multipart-manifest=get", [], b""), ("GET", f"{root}?format=json&limit={chance.choice([1, 3, 1000])}&marker={chance.choice(['', 'c', 'e'])}", [], b"")]
+        )
+        if made[0] == "PUT" and made[1] == inner:
+            tags.append((hashlib.md5(body).hexdigest(), f"/{box}/{name}", len(body)))
+        yield made
+
+
+@group()
+def a_file_and_memory_answer_alike(check):
+    with tempfile.TemporaryDirectory() as folder, Swiftd() as one, Swiftd(words=["--file", os.path.join(folder, "store.db")]) as other:
+        differ, statuses = [], set()
+        for method, target, headers, body in requests_by_chance(300):
+            text = swift(method, target, headers, body).replace(b"Host: h", b"Connection: close")
+            came = []
+            for store in (one, other):
+                with Client(store, text) as client:
+                    came.append(client.rest())
+            statuses.add(came[0][9:12])
+            if came[0] != came[1]:
+                differ.append((method, target, headers, came))
+        check("swiftd in memory and over a file: what differs", [], differ[:3])
+        check("and what kind of answer didn't come", set(), {b"200", b"201", b"202", b"204", b"206", b"400", b"404", b"409"} - statuses)
+
+
+@group()
+def a_file_of_sqlite_is_served(check):
+    root = f"/v1/{ACCOUNT}"
+    with tempfile.TemporaryDirectory() as folder:
+        file = os.path.join(folder, "store.db")
+        with contextlib.closing(sqlite3.connect(file)) as database:
+            database.executescript(TABLES)
+            database.execute("INSERT INTO containers VALUES (?, 0, 7)", (b"b",))
+            for name, kind in ((b"k", 0), (b"odd", 2)):
+                database.execute("INSERT INTO objects VALUES (?, ?, ?, ?, ?, 3, ?, ?)", (b"b", name, kind, b"t", b"3.a:1", ABC.encode(), b"abc"))
+            database.commit()
+        with Swiftd(words=["--file", file]) as store:
+            with store.client(swift("GET", f"{root}/b/k")) as client:
+                check("what SQLite wrote is an object", (200, b"abc"), both(client.reply()))
+            for method in ("GET", "HEAD"):
+                with store.client(swift(method, f"{root}/b/odd"), swift("GET", f"{root}/b/k")) as client:
+                    check(f"a row of no kind: {method}, and the end", [503, None], [client.reply(method == "HEAD").status, client.reply()])
+            with store.client(swift("PUT", f"{root}/b/odd", [("Content-Type", "t")], b"abd"), swift("GET", f"{root}/b/odd")) as client:
+                check("but it can be put over", [201, (200, b"abd")], [client.reply().status, both(client.reply())])
+
+
+@group()
+def files_that_swiftd_refuses(check):
+    words = ["--token", "t", "--account", "a", "--connections", "1", "--file"]
+    half = os.sysconf("SC_PHYS_PAGES") * os.sysconf("SC_PAGE_SIZE") // 2
+    with tempfile.TemporaryDirectory() as folder:
+        os.chmod(folder, 0o755)
+
+        def path_of(name, body=b"", size=None):
+            path = os.path.join(folder, name)
+            with open(path, "wb") as file:
+                file.write(body)
+                if size:
+                    file.truncate(size)
+            return path
+
+        other = os.path.join(folder, "other")
+        with contextlib.closing(sqlite3.connect(other)) as database:
+            database.execute("CREATE TABLE objects (name TEXT)")
+        none, shut = "no database, or a damaged one", "cannot be opened and written"
+        rows = [
+            ("random bytes", path_of("random", random.randbytes(5000)), none),
+            ("a text", path_of("text", b"SELECT 1;\n" * 100), none),
+            ("tables of other columns", other, none),
+            ("a file above half of the memory", path_of("large", b"SQLite format 3\0", half + 65536), "larger than half of the machine's memory"),
+            ("a folder", folder, shut),
+            ("a folder that isn't there", os.path.join(folder, "no", "file"), shut),
+            ("the name for memory", ":memory:", shut),
+        ]
+        for title, path, why in rows:
+            before = open(path, "rb").read(5000) if os.path.isfile(path) else b""
+            check(f"swiftd over {title}", (9, b"", f"swiftd: setup\n--file: {why}\n".encode()), ran(SWIFTD, [*words, path], SWIFTD_LISTEN=NOWHERE))
+            check("which stays as it is", before, open(path, "rb").read(5000) if os.path.isfile(path) else b"")
+        with contextlib.closing(sqlite3.connect(other)) as database:
+            check("no table is left in another's", [("objects",)], database.execute("SELECT name FROM sqlite_master").fetchall())
+        # Another user, where this one may write everything.
+        program, file = os.path.join(folder, "swiftd"), path_of("shut")
+        shutil.copy(SWIFTD, program)
+        os.chmod(program, 0o755)
+        os.chmod(file, 0o444)
+        user = {"user": 65534, "group": 65534, "extra_groups": []} if os.geteuid() == 0 else {}
+        done = subprocess.run([program, *words, file], env={"SWIFTD_LISTEN": NOWHERE}, capture_output=True, timeout=PATIENCE, **user)
+        check("swiftd over a file that may not be written", (9, f"swiftd: setup\n--file: {shut}\n".encode()), (done.returncode, done.stderr))
 
 
 @group()

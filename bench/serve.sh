@@ -1,16 +1,16 @@
 #!/usr/bin/env bash
 # Requests a second, and milliseconds at the middle and at 99 of 100, of one client on one connection: for `s3gate serve` over
-# `swiftd`, for plain Swift calls to the same `swiftd`, and for `moto_server` where it is installed. The three take turns
-# within one run, so that a busy machine is busy for all of them.
+# `swiftd` in memory and over a file, for plain Swift calls to such a `swiftd`, and for `moto_server` where it is installed. They take
+# turns within one run, so that a busy machine is busy for all of them. The files are in a folder of their own, and are removed.
 #
 #   bench/serve.sh [FOLDER] [REQUESTS]
 #
 # FOLDER has the programs s3gate and swiftd; without it those of crates/*/out are taken (README.md, "Run it"). Each kind of
-# request is made 1,000 times unless told otherwise, those of 16 MiB a fiftieth as often. Only Python's own libraries are used.
+# request is made 1,000 times unless told otherwise, those of 1 and 16 MiB a fiftieth as often. Only Python's own libraries are used.
 set -euo pipefail
 cd "$(dirname "$0")/.."
 exec python3 - "$@" <<'PYTHON'
-import contextlib, datetime, hashlib, http.client, importlib.util, os, random, shutil, socket, subprocess, sys, time
+import contextlib, datetime, hashlib, http.client, importlib.util, os, random, shutil, socket, subprocess, sys, tempfile, time
 
 sys.dont_write_bytecode = True
 spec = importlib.util.spec_from_file_location("sign", "examples/sign.py")
@@ -20,7 +20,9 @@ spec.loader.exec_module(sign)
 FOLDER = sys.argv[1] if len(sys.argv) > 1 else None
 REQUESTS = int(sys.argv[2]) if len(sys.argv) > 2 else 1000
 TURNS = 5
-SMALL, LARGE = random.Random(1).randbytes(1 << 10), random.Random(2).randbytes(1 << 24)
+BODIES = {"small": random.Random(1).randbytes(1 << 10), "medium": random.Random(3).randbytes(1 << 20), "large": random.Random(2).randbytes(1 << 24)}
+# The part of the large body that is asked for by a range.
+RANGE = (5 << 20, 6 << 20)
 TOKEN, ACCOUNT = "benchtoken", "bench"
 KEY = sign.first_key()
 
@@ -58,17 +60,18 @@ class Target:
         self.name, self.place, self.root, self.swift = name, place, root, swift
         self.client = http.client.HTTPConnection(place, timeout=60)
 
-    def headers(self, method, path, body):
+    def headers(self, method, path, body, part):
+        more = {"Range": f"bytes={part[0]}-{part[1] - 1}"} if part else {}
         if self.swift:
-            return {"X-Auth-Token": TOKEN, "X-Container-Read": "", "Content-Length": str(len(body)), "Content-Type": "binary/octet-stream"}
+            return {"X-Auth-Token": TOKEN, "X-Container-Read": "", "Content-Length": str(len(body)), "Content-Type": "binary/octet-stream", **more}
         head = f"{method} {path} HTTP/1.1\r\nhost: {self.place}"
         lines = sign.signed(head, *KEY, datetime.datetime.now(datetime.timezone.utc)).split("\r\n")[1:]
-        return {**dict(line.split(": ", 1) for line in lines), "Content-Length": str(len(body))}
+        return {**dict(line.split(": ", 1) for line in lines), "Content-Length": str(len(body)), **more}
 
-    def ask(self, method, name, body=b"", wanted=(200, 201, 202, 204)):
+    def ask(self, method, name, body=b"", part=None, wanted=(200, 201, 202, 204, 206)):
         """The seconds of a request, from its first byte to the last of its answer."""
         path = self.root + name
-        headers = self.headers(method, path, body)
+        headers = self.headers(method, path, body, part)
         begun = time.perf_counter()
         self.client.request(method, path, body, headers)
         answer = self.client.getresponse()
@@ -79,18 +82,28 @@ class Target:
         return took, got
 
 
-KINDS = [("PUT of 1 KiB", "PUT", "small", SMALL, 1), ("GET of 1 KiB", "GET", "small", b"", 1), ("HEAD", "HEAD", "small", b"", 1), ("PUT of 16 MiB", "PUT", "large", LARGE, 50), ("GET of 16 MiB", "GET", "large", b"", 50)]
+KINDS = [
+    ("PUT of 1 KiB", "PUT", "small", None, 1),
+    ("GET of 1 KiB", "GET", "small", None, 1),
+    ("HEAD", "HEAD", "small", None, 1),
+    ("PUT of 1 MiB", "PUT", "medium", None, 50),
+    ("GET of 1 MiB", "GET", "medium", None, 50),
+    ("PUT of 16 MiB", "PUT", "large", None, 50),
+    ("GET of 16 MiB", "GET", "large", None, 50),
+    ("GET of 1 MiB out of 16", "GET", "large", RANGE, 50),
+]
 
 
 def measured(targets):
-    for title, method, name, body, rarer in KINDS:
+    for title, method, name, part, rarer in KINDS:
+        body, whole = BODIES[name] if method == "PUT" else b"", BODIES[name][slice(*part)] if part else BODIES[name]
         times = {target.name: [] for target in targets}
         for _ in range(TURNS):
             for target in targets:
                 for _ in range(max(1, REQUESTS // rarer // TURNS)):
-                    took, got = target.ask(method, f"/photos/{name}", body)
+                    took, got = target.ask(method, f"/photos/{name}", body, part)
                     times[target.name].append(took)
-                    if method == "GET" and got != (SMALL if name == "small" else LARGE):
+                    if method == "GET" and got != whole:
                         sys.exit(f"{target.name}: {title} gives other bytes")
         for target in targets:
             yield title, target.name, sorted(times[target.name])
@@ -100,16 +113,17 @@ def main():
     s3gate, swiftd = program("s3gate"), program("swiftd")
     moto = shutil.which("moto_server")
     load = " ".join(f"{it:.1f}" for it in os.getloadavg())
-    print(f"{datetime.datetime.now(datetime.timezone.utc):%Y-%m-%d %H:%M} UTC, {os.cpu_count()} processors, load {load}; {REQUESTS} requests of each kind, {max(1, REQUESTS // 50)} of 16 MiB")
-    store, gate, other = free_place(), free_place(), free_place()
-    many = ["--connections", "1000000"]
+    print(f"{datetime.datetime.now(datetime.timezone.utc):%Y-%m-%d %H:%M} UTC, {os.cpu_count()} processors, load {load}; {REQUESTS} requests of each kind, {max(1, REQUESTS // 50)} of 1 and 16 MiB")
+    other, many, targets = free_place(), ["--connections", "1000000"], []
     with contextlib.ExitStack() as stack:
-        stack.enter_context(started([swiftd, "--token", TOKEN, "--account", ACCOUNT, *many], store, SWIFTD_LISTEN=store))
-        # The gateway and the plain calls each have a store of their own: it serves one connection at a time.
-        plain = free_place()
-        stack.enter_context(started([swiftd, "--token", TOKEN, "--account", ACCOUNT, *many], plain, SWIFTD_LISTEN=plain))
-        stack.enter_context(started([s3gate, "serve", *many], gate, S3GATE_KEYS=os.path.abspath("examples/keys.txt"), S3GATE_LISTEN=gate, S3GATE_STORE=store, S3GATE_ACCOUNT=ACCOUNT, S3GATE_TOKEN=TOKEN))
-        targets = [Target("s3gate over swiftd", gate, ""), Target("swiftd, plain calls", plain, f"/v1/{ACCOUNT}", swift=True)]
+        folder = stack.enter_context(tempfile.TemporaryDirectory())
+        # The gateway and the plain calls each have a store of their own: it serves one request at a time.
+        for title, files in (("memory", ([], [])), ("a file", [["--file", f"{folder}/{at}.db"] for at in range(2)])):
+            store, plain, gate = free_place(), free_place(), free_place()
+            for place, file in zip((store, plain), files):
+                stack.enter_context(started([swiftd, "--token", TOKEN, "--account", ACCOUNT, *many, *file], place, SWIFTD_LISTEN=place))
+            stack.enter_context(started([s3gate, "serve", *many], gate, S3GATE_KEYS=os.path.abspath("examples/keys.txt"), S3GATE_LISTEN=gate, S3GATE_STORE=store, S3GATE_ACCOUNT=ACCOUNT, S3GATE_TOKEN=TOKEN))
+            targets += [Target(f"s3gate over swiftd, {title}", gate, ""), Target(f"swiftd, {title}, plain calls", plain, f"/v1/{ACCOUNT}", swift=True)]
         if moto:
             host, _, port = other.rpartition(":")
             stack.enter_context(started([moto, "-H", host, "-p", port], other))

@@ -4,13 +4,15 @@
 # where it is installed and else by curl; and serves on until it is stopped by Ctrl-C or TERM, when it ends both. A line tells each crate
 # that is proved, and how many are left.
 #
-#   examples/serve.sh [PORT]
+#   examples/serve.sh [PORT [FOLDER]]
 #
-# s3gate listens at PORT, 8080 unless given, and swiftd at the next one; where one of them is taken nothing is started. The log
-# of s3gate stands on standard error.
+# s3gate listens at PORT, 8080 unless given, and swiftd at the next one; where one of them is taken nothing is started. What is stored
+# is kept in FOLDER, `s3gate-data` in the home folder unless given, and is there again when this is started again. The log of s3gate
+# stands on standard error.
 set -euo pipefail
 set -m # each job below is a process group of its own, and is ended as a whole
 port="${1:-8080}"
+folder="$(realpath -m -- "${2:-${HOME:-/tmp}/s3gate-data}")"
 cd "$(dirname "$0")/.."
 jobs=()
 log="$(mktemp)"
@@ -70,7 +72,7 @@ store="127.0.0.1:$((port + 1))"
 read -r id secret <examples/keys.txt
 # Waits until a port is listened at, by the server that was started for it.
 await() {
-    for _ in $(seq 50); do
+    for _ in $(seq 600); do
         kill -0 "$1" 2>/dev/null || break
         if is_taken "$2"; then return; fi
         sleep 0.1
@@ -78,7 +80,9 @@ await() {
     echo "serve.sh: what should listen at port $2 has ended" >&2
     exit 1
 }
-SWIFTD_LISTEN="$store" SWIFTD_LOG=off crates/swiftd/out/swiftd --token example --account example --connections 1000000000 &
+mkdir -p "$folder"
+SWIFTD_LISTEN="$store" SWIFTD_LOG=off crates/swiftd/out/swiftd --token example --account example --connections 1000000000 \
+    --file "$folder/store.db" &
 jobs+=($!)
 await $! "$((port + 1))"
 S3GATE_KEYS=examples/keys.txt S3GATE_LISTEN="127.0.0.1:$port" S3GATE_STORE="$store" S3GATE_ACCOUNT=example S3GATE_TOKEN=example \
@@ -89,7 +93,7 @@ ask() {
     curl --silent --show-error --fail-with-body --retry 5 --retry-connrefused --retry-delay 1 --user "$id:$secret" \
         --aws-sigv4 aws:amz:us-east-1:s3 -H 'x-amz-content-sha256: UNSIGNED-PAYLOAD' "$@"
 }
-ask -X PUT --data-binary '' "$place/photos"
+ask --head "$place/photos" >/dev/null 2>&1 || ask -X PUT --data-binary '' "$place/photos"
 if command -v aws >/dev/null; then
     export AWS_ACCESS_KEY_ID=$id AWS_SECRET_ACCESS_KEY=$secret AWS_CONFIG_FILE=examples/clients/aws-config
     # An older aws heeds the place by this option alone.
@@ -112,7 +116,8 @@ s3gate serves at $place, over swiftd at $store. In another shell:
   aws --endpoint-url $place s3 cp README.md s3://music/a.txt
   aws --endpoint-url $place s3 ls s3://music
 
-examples/clients has what boto3, rclone and s3cmd want. What is stored is gone when this ends. Before a real Swift, set
-S3GATE_STORE, S3GATE_ACCOUNT and S3GATE_TOKEN to its place, an account of its own and an owner's token (docs/OPERATING.md).
+examples/clients has what boto3, rclone and s3cmd want. What is stored is in $folder/store.db and the log beside it, and is there
+again when this is started again. Before a real Swift, set S3GATE_STORE, S3GATE_ACCOUNT and S3GATE_TOKEN to its place, an account
+of its own and an owner's token (docs/OPERATING.md).
 END
 wait

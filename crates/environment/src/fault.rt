@@ -5,7 +5,7 @@ use itoa::Buffer;
 use std::alloc::Global;
 use std::io::{ErrorKind, Write};
 
-/// What is wrong with a variable, or with what it names.
+/// What is wrong with a variable or an option, or with what it names.
 #[derive(Clone, Copy, Debug, PartialEq, Eq)]
 pub enum Why {
     /// It isn't there, or has no byte.
@@ -34,9 +34,16 @@ pub enum Why {
     Folder,
     FileDenied,
     Unreadable,
+    /// The file that it names: another process has it, it is none of SQLite's or is damaged, its disk is full.
+    FileInUse,
+    NoDatabase,
+    DiskFull,
+    /// It has more bytes than half of the machine's memory has.
+    TooLarge,
+    CannotOpen,
 }
 
-/// Why a program can't begin: memory ran out, or a variable won't do.
+/// Why a program can't begin: memory ran out, or a variable or an option won't do.
 #[derive(Clone, Copy, Debug, PartialEq, Eq)]
 pub enum SetupFault {
     Memory,
@@ -92,6 +99,11 @@ impl Why {
             Why::Folder => b"cannot be read: a folder",
             Why::FileDenied => b"cannot be read: permission denied",
             Why::Unreadable => b"cannot be read",
+            Why::FileInUse => b"in use by another process",
+            Why::NoDatabase => b"no database, or a damaged one",
+            Why::DiskFull => b"no room on the disk",
+            Why::TooLarge => b"larger than half of the machine's memory",
+            Why::CannotOpen => b"cannot be opened and written",
         }
     }
 }

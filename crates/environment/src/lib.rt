@@ -4,6 +4,7 @@
 
 mod fault;
 mod given;
+mod machine;
 mod place;
 
 pub use fault::{SetupFault, Why, report_variable_fault, variable_fault_line};
@@ -11,4 +12,5 @@ pub use given::{
     clone_environment_runtime, is_variable_on, number_in_variable, required_variable, variable,
     words,
 };
+pub use machine::machine_memory;
 pub use place::{listener_at_variable_place, place_fault};

@@ -23,15 +23,20 @@ use Rattle.store_cmd.specs.declared.words.WordsFault.TheVariants.{Refused, Memor
 abbrev pub needed_rule : Text → Rule
 needed_rule name = record (new_rule name) { long = Some name; action = Some Set; required = true }
 
+abbrev pub optional_rule : Text → Rule
+optional_rule name = record (new_rule name) { long = Some name; action = Some Set }
+
 -- the words begin behind the program's name
 abbrev pub with_settings : Shape → Shape
 with_settings s = record s { no_binary_name = true }
 
--- `--token T --account A --connections N`, all of them required
+-- `--token T --account A --connections N`, all of them required, and `--file PATH`
 unfoldable pub store_app : App
 store_app =
-    with_rule (with_rule (with_rule (on_top with_settings (new_app (codes "swiftd"))) (needed_rule (codes "token"))) (needed_rule (codes "account")))
-    (needed_rule (codes "connections"))
+    with_rule
+    (with_rule (with_rule (with_rule (on_top with_settings (new_app (codes "swiftd"))) (needed_rule (codes "token"))) (needed_rule (codes "account")))
+    (needed_rule (codes "connections")))
+    (optional_rule (codes "file"))
 
 -- ---- as texts
 
@@ -49,22 +54,34 @@ is_count n = nat_le 1 n && nat_le n 1000000000
 abbrev pub store_connection_count : List ℕ → Option ℕ
 store_connection_count text = if is_number 20 text && is_count (digits_value 10 text) then Some (digits_value 10 text) else None
 
+-- 1 to 4096 bytes
+abbrev pub is_file_path : List ℕ → Bool
+is_file_path path = nat_le 1 (length path) && nat_le (length path) 4096
+
+-- the path of a file, if one is given; none where it is refused
+abbrev pub file_option : Option (List ℕ) → Option (Option (List ℕ))
+file_option None = Some None
+file_option (Some path) = if is_file_path path then Some (Some path) else None
+
 -- ---- what they ask for
 
-abbrev pub asked_with_store_names : List ℕ → List ℕ → Option ℕ → Option Asked
-asked_with_store_names token account None = None
-asked_with_store_names token account (Some connections) =
-    if is_name token && is_name account then Some (record { token = token; account = account; connections = connections }) else None
+abbrev pub asked_with_store_names : List ℕ → List ℕ → Option ℕ → Option (Option (List ℕ)) → Option Asked
+asked_with_store_names token account None file = None
+asked_with_store_names token account (Some connections) None = None
+asked_with_store_names token account (Some connections) (Some file) =
+    if is_name token && is_name account then Some (record { token = token; account = account; connections = connections; file = file }) else None
 
-abbrev pub asked_by : Option (List ℕ) → Option (List ℕ) → Option (List ℕ) → Option Asked
-asked_by None account connections = None
-asked_by (Some token) None connections = None
-asked_by (Some token) (Some account) None = None
-asked_by (Some token) (Some account) (Some connections) = asked_with_store_names token account (store_connection_count connections)
+abbrev pub asked_by : Option (List ℕ) → Option (List ℕ) → Option (List ℕ) → Option (List ℕ) → Option Asked
+asked_by None account connections file = None
+asked_by (Some token) None connections file = None
+asked_by (Some token) (Some account) None file = None
+asked_by (Some token) (Some account) (Some connections) file = asked_with_store_names token account (store_connection_count connections) (file_option file)
 
 -- by what `clap` found
 abbrev pub asked_in : List Row → Option Asked
-asked_in rows = asked_by (first_of (codes "token") rows) (first_of (codes "account") rows) (first_of (codes "connections") rows)
+asked_in rows =
+    asked_by (first_of (codes "token") rows) (first_of (codes "account") rows) (first_of (codes "connections") rows)
+    (first_of (codes "file") rows)
 
 -- what `clap` finds in the words, where it takes them
 unfoldable pub met_in : List Text → Option (List Row)
@@ -73,6 +90,17 @@ met_in words = if is_empty (fault_of store_app words) then Some (matches_of stor
 -- what the words ask for; none where they are refused
 abbrev pub asked_of : List (String Global) → Option Asked
 asked_of words = option_and_then asked_in (met_in (map string_bytes words))
+
+-- the path of the file that they name; none where they are refused
+abbrev pub file_of : Option Asked → Option (List ℕ)
+file_of None = None
+file_of (Some asked) = asked.file
+
+-- what reading the path answers; memory may run out for any
+abbrev pub ReadsFile : Option (List ℕ) → Result (Option (List ℕ)) WordsFault → Type 0
+ReadsFile given (Ok file) = file_option given ≡ Some file
+ReadsFile given (Err Refused) = file_option given ≡ None
+ReadsFile given (Err Memory) = Unit {0}
 
 -- what reading words of that meaning answers; memory may run out for any words
 abbrev pub ReadsWords : Option Asked → Result Asked WordsFault → Type 0

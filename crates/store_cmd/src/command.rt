@@ -5,7 +5,7 @@ ghost use Rattle.swift_requests.specs.Place.{IsPlace};
 ghost use Rattle.store_cmd.specs.Connection.{RunTrace};
 ghost use Rattle.store_cmd.specs.Report.{Reports, code_of, line_of};
 ghost use Rattle.store_cmd.specs.Run.{Performs, Runs, place_by, run_cursor};
-ghost use Rattle.store_cmd.specs.Words.{asked_of};
+ghost use Rattle.store_cmd.specs.Words.{asked_of, file_of};
 ghost use Rattle.store_cmd.specs.declared.status.Status.{Status as how};
 
 use crate::lent_store::LentStore;
@@ -51,6 +51,17 @@ pub fn run_store<N: Line<NoCount>, R: Sink, S: Shelf>(
 {
     let status = run_store_without_report(alloc, words, line, shelf);
     report_store_run(status, report)
+}
+
+/// The path of the file that keeps the account, where the words are accepted and name one.
+pub fn shelf_file(alloc: Global, words: &[String]) -> Result<Option<Bytes>, Memory>
+    ensures { IfOk result (λ file. file ≡ file_of (asked_of words.now)) }
+{
+    match read_words(alloc, words) {
+        Ok(asked) => Ok(asked.file),
+        Err(WordsFault::Refused) => Ok(None),
+        Err(WordsFault::Memory) => Err(Memory),
+    }
 }
 
 /// A run but for its report.

@@ -10,5 +10,5 @@ mod setup;
 mod status;
 mod words;
 
-pub use command::run_store;
+pub use command::{run_store, shelf_file};
 pub use laws::{law_failed_is_counted, law_unavailable_within_faults};

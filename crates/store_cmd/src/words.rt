@@ -5,7 +5,7 @@ ghost use Rattle.clap.specs.Words.{app_of, found_of, kind_of, rows_of, rule_of};
 ghost use Rattle.clap.specs.Simple.{new_app, on_top, with_rule};
 ghost use Rattle.swift_requests.specs.Place.{IsPlace};
 ghost use Rattle.store_cmd.specs.Run.{place_by};
-ghost use Rattle.store_cmd.specs.Words.{FaultOf, Parses, ReadsWords, asked_by, asked_in, asked_of, asked_with_store_names, store_connection_count, is_count, is_name, is_name_byte, needed_rule, store_app, with_settings};
+ghost use Rattle.store_cmd.specs.Words.{FaultOf, Parses, ReadsFile, ReadsWords, asked_by, asked_in, asked_of, asked_with_store_names, store_connection_count, is_count, is_file_path, is_name, is_name_byte, needed_rule, optional_rule, store_app, with_settings};
 ghost use Rattle.store_cmd.specs.declared.words.WordsFault.TheVariants as faults;
 
 use clap::error::ErrorKind;
@@ -20,15 +20,20 @@ const LONGEST_NAME: usize = 64;
 /// The longest number, in digits.
 const LONGEST_NUMBER: usize = 20;
 
+/// The longest path of a file, in bytes.
+const LONGEST_PATH: usize = 4096;
+
 /// The most connections that may be asked for.
 const MOST_CONNECTIONS: u64 = 1_000_000_000;
 
-/// What the words ask for: the token and the account of the store, and how many connections are served.
+/// What the words ask for: the token and the account of the store, how many connections are served, and the path of the file
+/// that keeps the account, where there is one.
 #[derive(Debug, Drop)]
 pub(crate) struct Asked {
     pub(crate) token: Bytes,
     pub(crate) account: Bytes,
     pub(crate) connections: u64,
+    pub(crate) file: Option<Bytes>,
 }
 
 /// Why there is nothing asked for. `Refused`: by the words. `Memory`: memory ran out.
@@ -55,8 +60,8 @@ impl From<AllocError> for WordsFault {
 }
 
 /// What the words behind the program's name ask for. They are refused where `clap` refuses them or answers with a help
-/// text, where the token or the account isn't 1 to 64 letters, digits or `_`, and where the number of connections isn't
-/// 1 to 1000000000 in at most 20 digits.
+/// text, where the token or the account isn't 1 to 64 letters, digits or `_`, where the number of connections isn't
+/// 1 to 1000000000 in at most 20 digits, and where a path is given that hasn't 1 to 4096 bytes.
 pub(crate) fn read_words(alloc: Global, words: &[String]) -> Result<Asked, WordsFault>
     ensures reads { ReadsWords (asked_of words.now) result }
     ensures place { IfOk result (λ asked. IsPlace (place_by asked)) }
@@ -82,7 +87,8 @@ fn describe_store_command<'a>(alloc: Global) -> Result<Command<'a>, AllocError>
     let bare = store_command_without_options(alloc);
     let one = with_required_store_option(alloc, bare, "token")?;
     let two = with_required_store_option(alloc, one, "account")?;
-    with_required_store_option(alloc, two, "connections")
+    let three = with_required_store_option(alloc, two, "connections")?;
+    with_optional_store_option(alloc, three, "file")
 }
 
 /// A command with one more option, which has to be given.
@@ -95,6 +101,19 @@ fn with_required_store_option<'a>(
         (λ more. app_of more ≡ with_rule (app_of command.entry) (needed_rule name.entry.now)) }
 {
     let option = required_store_option(alloc, name);
+    command.arg(option)
+}
+
+/// A command with one more option, which may be given.
+fn with_optional_store_option<'a>(
+    alloc: Global,
+    command: Command<'a>,
+    name: &'a str,
+) -> Result<Command<'a>, AllocError>
+    ensures { IfOk result
+        (λ more. app_of more ≡ with_rule (app_of command.entry) (optional_rule name.entry.now)) }
+{
+    let option = optional_store_option(alloc, name);
     command.arg(option)
 }
 
@@ -116,6 +135,14 @@ fn required_store_option<'a>(alloc: Global, name: &'a str) -> Arg<'a>
         .required(true)
 }
 
+/// An option that may be given.
+fn optional_store_option<'a>(alloc: Global, name: &'a str) -> Arg<'a>
+    ensures rule { rule_of result ≡ optional_rule name.entry.now }
+    ensures local { result.global ≡ false }
+{
+    Arg::new(alloc, name).long(name).action(ArgAction::Set)
+}
+
 fn fault_of_store_words(error: &Error) -> WordsFault
     ensures { FaultOf (kind_of error.now) result }
 {
@@ -134,6 +161,7 @@ fn asked_in(alloc: Global, matches: &ArgMatches) -> Result<Asked, WordsFault>
         matches.get_str("token"),
         matches.get_str("account"),
         matches.get_str("connections"),
+        matches.get_str("file"),
     )
 }
 
@@ -142,10 +170,12 @@ fn asked_by(
     token: Option<&str>,
     account: Option<&str>,
     connections: Option<&str>,
+    file: Option<&str>,
 ) -> Result<Asked, WordsFault>
     ensures reads { ReadsWords (asked_by (option_map (λ text. text.now) token.entry)
         (option_map (λ text. text.now) account.entry)
-        (option_map (λ text. text.now) connections.entry)) result }
+        (option_map (λ text. text.now) connections.entry)
+        (option_map (λ text. text.now) file.entry)) result }
     ensures place { IfOk result (λ asked. IsPlace (place_by asked)) }
 {
     let Some(token) = token else {
@@ -157,15 +187,36 @@ fn asked_by(
     let Some(connections) = connections else {
         return Err(WordsFault::Refused);
     };
-    match store_connection_count(connections) {
-        Some(connections) => asked_with_store_names(
-            alloc,
-            token.as_bytes(),
-            account.as_bytes(),
-            connections,
-        ),
-        None => Err(WordsFault::Refused),
+    let Some(connections) = store_connection_count(connections) else {
+        return Err(WordsFault::Refused);
+    };
+    let file = file_option(alloc, file)?;
+    asked_with_store_names(
+        alloc,
+        token.as_bytes(),
+        account.as_bytes(),
+        connections,
+        file,
+    )
+}
+
+/// The path of the file, where one is given.
+fn file_option(alloc: Global, file: Option<&str>) -> Result<Option<Bytes>, WordsFault>
+    ensures { ReadsFile (option_map (λ text. text.now) file.entry) result }
+{
+    let Some(path) = file else {
+        return Ok(None);
+    };
+    if !is_file_path(path.as_bytes()) {
+        return Err(WordsFault::Refused);
     }
+    Ok(Some(Bytes::from_slice(alloc, path.as_bytes())?))
+}
+
+fn is_file_path(path: &[u8]) -> bool
+    ensures { result ≡ is_file_path path.now }
+{
+    1 <= path.len() && path.len() <= LONGEST_PATH
 }
 
 fn asked_with_store_names(
@@ -173,8 +224,10 @@ fn asked_with_store_names(
     token: &[u8],
     account: &[u8],
     connections: u64,
+    file: Option<Bytes>,
 ) -> Result<Asked, WordsFault>
-    ensures reads { ReadsWords (asked_with_store_names token.now account.now (Some connections)) result }
+    ensures reads { ReadsWords
+        (asked_with_store_names token.now account.now (Some connections) (Some file)) result }
     ensures place { IfOk result (λ asked. IsPlace (place_by asked)) }
 {
     if !is_name(token) {
@@ -187,6 +240,7 @@ fn asked_with_store_names(
         token: Bytes::from_slice(alloc, token)?,
         account: Bytes::from_slice(alloc, account)?,
         connections,
+        file,
     })
 }
 

@@ -1,17 +1,18 @@
-//! `swiftd`, a small Swift store in memory. The words after the program's name are those of `store_cmd::run_store`. It
-//! serves the clients that come to the place which `SWIFTD_LISTEN` names.
+//! `swiftd`, a small Swift store in memory or in a file. The words after the program's name are those of
+//! `store_cmd::run_store`. It serves the clients that come to the place which `SWIFTD_LISTEN` names.
 #![tactic(auto)]
 
 use environment::{
     SetupFault, Why, clone_environment_runtime, is_variable_on, listener_at_variable_place,
-    number_in_variable, report_variable_fault, words,
+    machine_memory, number_in_variable, report_variable_fault, words,
 };
 use gate_base::{Line, List, MemLine, NoCount, StdSink};
+use kept_store::{FileFault, FileShelf, close_file_shelf, open_file_shelf};
 use sockets::TcpLine;
 use std::io::ErrorKind;
 use std::process::ExitCode;
-use store_cmd::run_store;
-use swift_store::MapShelf;
+use store_cmd::{run_store, shelf_file};
+use swift_store::{MapShelf, Shelf};
 use wire_log::{Log, LoggedLine};
 
 /// The exit status where memory ran out before the run began.
@@ -35,6 +36,9 @@ const MEBIBYTE: u64 = 1_048_576;
 
 const LISTEN: &str = "SWIFTD_LISTEN";
 
+/// The option that names the file, as it stands in the line that says why the program can't begin.
+const FILE: &str = "--file";
+
 /// The clients, with a log of their replies on standard error.
 type Clients = LoggedLine<TcpLine<HostRuntime>, StdSink, HostRuntime>;
 
@@ -54,31 +58,67 @@ fn start(rt: &HostRuntime) -> Result<u8, SetupFault> {
     let words = words(rt)?;
     if words.is_empty() {
         match MemLine::new(rt.alloc(), List::new(rt.alloc()), 1, List::new(rt.alloc())) {
-            Ok(mut line) => run_over(rt, &words, &mut line),
+            Ok(mut line) => run_over(rt, &words, &mut line, &mut MapShelf::new(rt.alloc())),
             Err(_) => Ok(MEMORY),
         }
     } else {
-        serve(rt, &words)
+        match shelf_file(rt.alloc(), &words)? {
+            Some(path) => serve_file(rt, &words, path.as_slice()),
+            None => serve(rt, &words, &mut MapShelf::new(rt.alloc())),
+        }
     }
 }
 
-/// A run over the clients that come. What is kept for slow ones is sent before it ends; the status is that of the run, as no client's
-/// failure has one.
-fn serve(rt: &HostRuntime, words: &[String]) -> Result<u8, SetupFault> {
+/// A run over the clients that come, from the shelf of a file. At its end what stands in the log beside the file is written into it.
+fn serve_file(rt: &HostRuntime, words: &[String], path: &[u8]) -> Result<u8, SetupFault> {
+    let mut shelf = shelf_in_file(rt, path)?;
+    let status = serve(rt, words, &mut shelf);
+    close_file_shelf(shelf);
+    status
+}
+
+/// A run over the clients that come. The shelf is there before the program listens. What is kept for slow clients is sent before
+/// it ends; the status is that of the run, as no client's failure has one.
+fn serve<S: Shelf>(rt: &HostRuntime, words: &[String], shelf: &mut S) -> Result<u8, SetupFault> {
     let mut line = clients(rt)?;
-    let status = run_over(rt, words, &mut line);
+    let status = run_over(rt, words, &mut line, shelf);
     let _ = line.into_line().finish();
     status
 }
 
-fn run_over<N: Line<NoCount>>(
+fn run_over<N: Line<NoCount>, S: Shelf>(
     rt: &HostRuntime,
     words: &[String],
     line: &mut N,
+    shelf: &mut S,
 ) -> Result<u8, SetupFault> {
     let mut report = StdSink::output(clone_environment_runtime(rt)?);
-    let mut shelf = MapShelf::new(rt.alloc());
-    Ok(run_store(rt.alloc(), words, line, &mut report, &mut shelf))
+    Ok(run_store(rt.alloc(), words, line, &mut report, shelf))
+}
+
+/// The shelf over the file of this path, which is made where there is none. One of more than half of the machine's memory is refused.
+fn shelf_in_file(rt: &HostRuntime, path: &[u8]) -> Result<FileShelf, SetupFault> {
+    let most = match machine_memory(rt) {
+        Some(bytes) => bytes / 2,
+        None => u64::MAX,
+    };
+    match open_file_shelf(rt, path, most) {
+        Ok(shelf) => Ok(shelf),
+        Err(fault) => Err(file_setup_fault(fault)),
+    }
+}
+
+fn file_setup_fault(fault: FileFault) -> SetupFault {
+    let why = match fault {
+        FileFault::Memory => return SetupFault::Memory,
+        FileFault::NotText => Why::NotText,
+        FileFault::TooLarge => Why::TooLarge,
+        FileFault::InUse => Why::FileInUse,
+        FileFault::NoDatabase => Why::NoDatabase,
+        FileFault::DiskFull => Why::DiskFull,
+        FileFault::CannotOpen => Why::CannotOpen,
+    };
+    SetupFault::Variable(FILE, why)
 }
 
 /// The clients that come to the place which the environment names. How many of them are served is said by the words.
