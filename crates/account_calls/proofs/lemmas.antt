@@ -18,6 +18,7 @@ pub mod One
 pub mod Pages
 pub mod Puts
 pub mod Quiet
+pub mod Refusals
 pub mod Removal
 pub mod Replies
 pub mod SealStands

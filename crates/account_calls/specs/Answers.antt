@@ -8,6 +8,8 @@ use Rattle.s3_machine.specs.declared.code.Code.{Code}
 use Rattle.s3_machine.specs.declared.code.Code.TheVariants.{ServiceUnavailable, InconsistentStore}
 use Rattle.s3_machine.specs.declared.operation.Label.{Label}
 use Rattle.s3_machine.specs.declared.operation.Settings.{Settings}
+use Rattle.s3_machine.specs.Uploads.{kept_as}
+use Rattle.s3_machine.specs.declared.operation.Listed.{Listed}
 use Rattle.s3_machine.specs.declared.operation.Op.{Op}
 use Rattle.s3_machine.specs.declared.operation.Op.TheVariants.{
   ListBuckets,
@@ -36,7 +38,7 @@ use Rattle.s3_machine.specs.declared.operation.Op.TheVariants.{
 use Rattle.s3_machine.specs.declared.operation.Reply.{Reply}
 use Rattle.s3_machine.specs.declared.operation.Reply.TheVariants.{Refused, Memory, Gone, Completed}
 use Rattle.s3_machine.specs.Items.{begins}
-use Rattle.s3_machine.specs.State.{Object, Bucket, Upload, State}
+use Rattle.s3_machine.specs.State.{Object, Bucket, Completion, Upload, State}
 use Rattle.s3_machine.specs.Step.{S3Step, head_of, listing}
 use Rattle.s3_machine.specs.declared.items.Asked.{Asked}
 use Rattle.s3_machine.specs.Reading.{judged}
@@ -346,6 +348,14 @@ copy_calls n tree bucket from_bucket from_key =
     cond (is_of_parts (object_at (get (s3_state tree) from_bucket) from_key))
     (n + 2 + 2 * (records_of tree bucket + segments_of tree bucket) + 2 * listed_by tree from_bucket from_key) n
 
+-- the calls of a completion: two where the same one is kept, and else n
+abbrev pub kept_in : Option Bucket → List ℕ → Option Completion
+kept_in None id = None
+kept_in (Some b) id = get b.kept id
+
+abbrev pub completion_calls : ℕ → State → List ℕ → List ℕ → List ℕ → List Listed → ℕ
+completion_calls n state bucket key id list = cond (is_some (kept_as key list (kept_in (get state bucket) id))) 2 n
+
 -- how many pieces so many bytes are sent in: each has 1 MiB, but for the last
 abbrev pub pieces : ℕ → ℕ
 pieces bytes = (bytes + 1048575) / 1048576
@@ -378,7 +388,7 @@ most_calls (ListUploads bucket prefix key_marker id_marker max) tree = by_accoun
 most_calls (CreateUpload bucket key acl content_type meta) tree = by_account (2 + 2 * (records_of tree bucket + segments_of tree bucket + 1))
 most_calls (UploadPart bucket key id number body) tree = always 3
 most_calls (ListParts bucket key id marker max) tree = by_account (2 + pages (named_by tree bucket id))
-most_calls (CompleteUpload bucket key id list) tree = by_account (6 + pages (named_by tree bucket id) + sub_manifests (length list))
+most_calls (CompleteUpload bucket key id list) tree = by_account (completion_calls (6 + pages (named_by tree bucket id) + sub_manifests (length list)) (s3_state tree) bucket key id list)
 most_calls (AbortUpload bucket key id) tree = by_account (3 + pages (named_by tree bucket id) + named_by tree bucket id)
 most_calls (DeleteObjects bucket keys quiet) tree = always (1 + length keys)
 most_calls (CopyObject bucket key acl from_bucket from_key replaced) tree = by_account (copy_calls 5 tree bucket from_bucket from_key)

@@ -10,6 +10,7 @@ pub mod Listing
 pub mod Plan
 pub mod Purging
 pub mod Puts
+pub mod Refusals
 pub mod Sealed
 pub mod Stutters
 pub mod SubManifests

@@ -14,6 +14,7 @@ use Rattle.upload_records.specs.Native.{IsSettled}
 use Rattle.account_calls.specs.Answers.{Answers, ends_by_commit, may_leave_unsure, beside_of, SaysBeside}
 use Rattle.account_calls.specs.Calls.{Bound, Met, Grows}
 use Rattle.account_calls.specs.Known.{IsKnown}
+use Rattle.account_calls.specs.Refusals.{IsWithinShown, most_refused}
 use Rattle.account_calls.specs.declared.state.Known.{Known}
 use Rattle.account_calls.specs.declared.state.Known.TheVariants.{Unsure}
 use Rattle.account_calls.specs.Fault.{CausesFault}
@@ -64,6 +65,8 @@ pub record Plans (most : Bound) (old new : History) (settings : Settings) (given
 -- an operation was answered on a settled store, of which this is known after it
 pub record Answered (most : Bound) (old new : History) (settings : Settings) (op : Op) (label : Label) (known : Known) (reply : Reply) : Type 0 where
   pub grows : Grows most IsSettled old new
+  -- over every store, a refusal stops at the call that shows it
+  pub refused : IsWithinShown (most_refused op reply) old.called new.called
   pub showable : IsShowable reply
   pub unavailable : reply ≡ Refused ServiceUnavailable → Rose old.faults new.faults
   pub unsure : known ≡ Unsure → may_leave_unsure op reply ≡ true

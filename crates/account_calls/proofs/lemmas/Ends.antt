@@ -27,6 +27,8 @@ use Rattle.account_calls.proofs.lemmas.Causes.{due_cause}
 use Rattle.account_calls.proofs.lemmas.Faults.{err_is}
 use Rattle.account_calls.proofs.lemmas.Idle.{none_made, goes_trans, grows_none}
 use Rattle.account_calls.specs.Plan.{reply_of, IsOwnReply, EndsPlan, ended, CausesEnd, Plans, Answered}
+use Rattle.account_calls.specs.Refusals.{Stops, shows}
+use Rattle.account_calls.proofs.lemmas.Refusals.{shown_of}
 use Rattle.account_calls.proofs.lemmas.Replies.{rose_of, steady_of, consistent_of, showable_of}
 
 -- quiet calls leave the old state at each number
@@ -339,9 +341,10 @@ pub becomes : {settings : Settings} {op : Op} {label : Label} {reply : Reply} {o
 becomes {settings = settings} {op = op} {label = label} {reply = reply} {old = old} step is = subst (S3Step settings old op label reply) (sym is) step
 
 -- the reply by the end of a whole plan
-pub answered_by : {most : Bound} {a b : History} {settings : Settings} {op : Op} {label : Label} {end : Result Reply PlanFault} → beside_of op ≡ nothing_beside → Plans most a b settings (Given Any) op label Settled end → Answered most a b settings op label Settled (reply_of end)
-answered_by {most = most} {a = a} {b = b} {op = op} {label = label} {end = end} none plans = record {
+pub answered_by : {most : Bound} {a b : History} {settings : Settings} {op : Op} {label : Label} {end : Result Reply PlanFault} → beside_of op ≡ nothing_beside → Stops (shows op) 0 a b end → Plans most a b settings (Given Any) op label Settled end → Answered most a b settings op label Settled (reply_of end)
+answered_by {most = most} {a = a} {b = b} {op = op} {label = label} {end = end} none stops plans = record {
   grows = record { on = plans.grows.on; calls = within_same most a.called b.called any plans.grows.calls };
+  refused = shown_of op a b end stops;
   showable = showable_of end plans.own;
   unavailable = rose_of (ends_by_commit op (reply_of end)) a.faults b.faults end plans.own plans.cause;
   unsure = λ is. absurd (let no : Settled ≡ Unsure = is in cc);

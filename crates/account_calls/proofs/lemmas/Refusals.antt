@@ -1,0 +1,134 @@
+-- A plan stops at the call that shows why it is refused.
+use Rattle.std.specs.Prelude.{◌≡◌, ◌≤◌, ℕ, ◌+◌, false, Option, None, Some, IfSome, Result, Ok, Err}
+use Rattle.std.specs.Result.{IsErrAnd}
+use Rattle.std.proofs.Common.{refl, sym, subst, arith}
+use Rattle.s3_machine.specs.declared.code.Code.{Code}
+use Rattle.s3_machine.specs.declared.code.Code.TheVariants as code
+use Rattle.s3_machine.specs.declared.operation.Op.{Op}
+use Rattle.s3_machine.specs.declared.operation.Reply.{Reply}
+use Rattle.s3_machine.specs.declared.operation.Reply.TheVariants as replies
+use Rattle.swift_calls.specs.Account.{SwiftAccount}
+use Rattle.swift_calls.specs.History.{History}
+use Rattle.account_calls.specs.declared.fault.PlanFault.{PlanFault}
+use Rattle.account_calls.specs.declared.fault.PlanFault.TheVariants.{Failed, Memory, Inconsistent}
+use Rattle.account_calls.specs.Calls.{Asks, always}
+use Rattle.account_calls.specs.Plan.{ended, reply_of}
+use Rattle.account_calls.specs.Refusals.{IsWithinShown, Shows, Stops, Unrefused, code_shown_by, is_refusal, most_refused, shown_by, shows}
+use Rattle.account_calls.proofs.lemmas.Faults.{err_is}
+
+-- more may be shown
+if_some : (shown : Option ℕ) {P Q : ℕ → Type 0} → ((n : ℕ) → P n → Q n) → IfSome shown P → IfSome shown Q
+if_some None gives has = tt
+if_some (Some n) gives has = gives n has
+
+module _ {s : Shows} {before : ℕ} {a b : History} where
+  -- a fault is no refusal
+  pub stops_not : (end : Result Reply PlanFault) {fault : PlanFault} → IsErrAnd end (λ e. e ≡ fault) → Stops s before a b end
+  stops_not end {fault = fault} is = subst (Stops s before a b) (sym (err_is end fault is)) (record { so = tt })
+
+  no_refusal : (s : Shows) (reply : Reply) → is_refusal reply ≡ false → shown_by s reply ≡ None
+  no_refusal s (replies.Refused code) is = cc
+  no_refusal s replies.Memory is = refl
+  no_refusal s replies.Done is = refl
+  no_refusal s replies.Gone is = refl
+  no_refusal s (replies.NotModified head) is = cc
+  no_refusal s (replies.Buckets items) is = refl
+  no_refusal s (replies.Made bucket) is = refl
+  no_refusal s (replies.Location region) is = refl
+  no_refusal s (replies.AclOf acl) is = refl
+  no_refusal s (replies.Objects bucket asked items truncated) is = refl
+  no_refusal s (replies.Uploads bucket prefix key_marker id_marker max items truncated) is = refl
+  no_refusal s (replies.Stored etag) is = refl
+  no_refusal s (replies.Object head from length partial body) is = refl
+  no_refusal s (replies.Started bucket key id) is = refl
+  no_refusal s (replies.Parts bucket key id marker max items truncated) is = refl
+  no_refusal s (replies.Completed bucket key etag) is = refl
+  no_refusal s (replies.Deleted keys quiet) is = refl
+  no_refusal s (replies.Copied part etag modified) is = refl
+
+  -- nor is anything else behind what may be refused
+  pub stops_unrefused : (end : Result Reply PlanFault) → Unrefused end → Stops s before a b end
+  stops_unrefused (Ok reply) done = record { so = subst (λ o. IfSome o (λ n. before + b.called ≤ a.called + n)) (sym (no_refusal s reply done)) tt }
+  stops_unrefused (Err fault) done = record { so = tt }
+
+-- the end of a plan whose reply was made before its last call
+pub unrefused_ended : {T : Type 0} (reply : T → Reply) → ((told : T) → is_refusal (reply told) ≡ false) → (end : Result T PlanFault) → Unrefused (ended end reply)
+unrefused_ended reply made (Ok told) = made told
+unrefused_ended reply made (Err fault) = tt
+
+-- calls were made, and then the rest of the plan stops
+pub stops_behind : {T : Type 0} {n : ℕ} {asked : SwiftAccount → Type 0} {P : SwiftAccount → SwiftAccount → T → Type 0} {value : Result T PlanFault} {s : Shows} {before : ℕ} {a b c : History} → Asks (always n) a b asked P value
+    → (end : Result Reply PlanFault) → Stops s (n + before) b c end → Stops s before a c end
+stops_behind {n = n} {s = s} {before = before} {a = a} {b = b} {c = c} asks (Ok reply) stops =
+    let near : b.called ≤ a.called + n = asks.grows.calls in
+    record { so = if_some (shown_by s reply) {P = λ m. n + before + c.called ≤ b.called + m} {Q = λ m. before + c.called ≤ a.called + m} (λ m within. omega arith) stops.so }
+stops_behind asks (Err fault) stops = record { so = tt }
+
+-- each reason takes a call at least
+late_code : (s : Shows) → 1 ≤ s.buckets → 1 ≤ s.object → (c : Code) (p q : ℕ) → q ≤ p + 1 → IfSome (code_shown_by s c) (λ n. 0 + q ≤ p + n)
+late_code s buckets object code.AccessDenied p q within = omega arith
+late_code s buckets object code.AuthorizationHeaderMalformed p q within = tt
+late_code s buckets object code.AuthorizationQueryParametersError p q within = tt
+late_code s buckets object code.BadDigest p q within = tt
+late_code s buckets object code.BucketAlreadyOwnedByYou p q within = omega arith
+late_code s buckets object code.BucketNotEmpty p q within = omega arith
+late_code s buckets object code.EntityTooLarge p q within = omega arith
+late_code s buckets object code.EntityTooSmall p q within = tt
+late_code s buckets object code.IncompleteBody p q within = tt
+late_code s buckets object code.InconsistentStore p q within = tt
+late_code s buckets object code.InvalidAccessKeyId p q within = tt
+late_code s buckets object code.InvalidArgument p q within = tt
+late_code s buckets object code.InvalidBucketName p q within = tt
+late_code s buckets object code.InvalidDigest p q within = tt
+late_code s buckets object code.InvalidPart p q within = tt
+late_code s buckets object code.InvalidPartOrder p q within = omega arith
+late_code s buckets object code.InvalidRange p q within = omega arith
+late_code s buckets object code.InvalidRequest p q within = omega arith
+late_code s buckets object code.InvalidStorageClass p q within = tt
+late_code s buckets object code.InvalidURI p q within = tt
+late_code s buckets object code.KeyTooLongError p q within = tt
+late_code s buckets object code.MalformedXML p q within = tt
+late_code s buckets object code.MetadataTooLarge p q within = tt
+late_code s buckets object code.MethodNotAllowed p q within = tt
+late_code s buckets object code.MissingContentLength p q within = tt
+late_code s buckets object code.NoSuchBucket p q within = omega arith
+late_code s buckets object code.NoSuchKey p q within = omega arith
+late_code s buckets object code.NoSuchUpload p q within = omega arith
+late_code s buckets object code.NotImplemented p q within = omega arith
+late_code s buckets object code.PreconditionFailed p q within = omega arith
+late_code s buckets object code.RequestTimeTooSkewed p q within = tt
+late_code s buckets object code.ServiceUnavailable p q within = tt
+late_code s buckets object code.SignatureDoesNotMatch p q within = tt
+late_code s buckets object code.XAmzContentSHA256Mismatch p q within = tt
+
+late : (s : Shows) → 1 ≤ s.buckets → 1 ≤ s.object → (reply : Reply) (p q : ℕ) → q ≤ p + 1 → IfSome (shown_by s reply) (λ n. 0 + q ≤ p + n)
+late s buckets object (replies.Refused c) p q within = late_code s buckets object c p q within
+late s buckets object (replies.NotModified head) p q within = omega arith
+late s buckets object replies.Memory p q within = tt
+late s buckets object replies.Done p q within = tt
+late s buckets object replies.Gone p q within = tt
+late s buckets object (replies.Buckets items) p q within = tt
+late s buckets object (replies.Made bucket) p q within = tt
+late s buckets object (replies.Location region) p q within = tt
+late s buckets object (replies.AclOf acl) p q within = tt
+late s buckets object (replies.Objects bucket asked items truncated) p q within = tt
+late s buckets object (replies.Uploads bucket prefix key_marker id_marker max items truncated) p q within = tt
+late s buckets object (replies.Stored etag) p q within = tt
+late s buckets object (replies.Object head from length partial body) p q within = tt
+late s buckets object (replies.Started bucket key id) p q within = tt
+late s buckets object (replies.Parts bucket key id marker max items truncated) p q within = tt
+late s buckets object (replies.Completed bucket key etag) p q within = tt
+late s buckets object (replies.Deleted keys quiet) p q within = tt
+late s buckets object (replies.Copied part etag modified) p q within = tt
+
+-- so a plan of one call stops at it
+pub stops_at_once : {s : Shows} {a b : History} → 1 ≤ s.buckets → 1 ≤ s.object → (end : Result Reply PlanFault) → b.called ≤ a.called + 1 → Stops s 0 a b end
+stops_at_once {s = s} {a = a} {b = b} buckets object (Ok reply) within = record { so = late s buckets object reply a.called b.called within }
+stops_at_once buckets object (Err fault) within = record { so = tt }
+
+-- the reply by the end of a whole plan
+pub shown_of : (op : Op) (a b : History) (end : Result Reply PlanFault) → Stops (shows op) 0 a b end → IsWithinShown (most_refused op (reply_of end)) a.called b.called
+shown_of op a b (Ok reply) stops = if_some (shown_by (shows op) reply) {P = λ n. 0 + b.called ≤ a.called + n} {Q = λ n. b.called ≤ a.called + n} (λ n within. omega arith) stops.so
+shown_of op a b (Err Failed) stops = tt
+shown_of op a b (Err Memory) stops = tt
+shown_of op a b (Err Inconsistent) stops = tt
