@@ -36,6 +36,7 @@ use Rattle.account_calls.specs.Fault.{CausesFault}
 use Rattle.account_calls.specs.Interpret.{IsShownHead}
 use Rattle.account_calls.specs.Plan.{IsOwnReply, Plans, Answered}
 use Rattle.account_calls.specs.Puts.{IfDone}
+use Rattle.account_calls.specs.Refusals.{alone, shows, Stops}
 use Rattle.account_calls.specs.Told.{Told}
 use Rattle.account_calls.proofs.lemmas.Causes.{due_cause}
 use Rattle.account_calls.proofs.lemmas.Ends.{IsOneMore, IsWider, answers, answered_by, goes_on, met_settled, told_nothing}
@@ -46,7 +47,7 @@ use Rattle.planner.specs.declared.reading.Found.{Found}
 use Rattle.planner.specs.declared.reading.Reading.{Reading}
 use Rattle.planner.specs.declared.reading.Reading.TheVariants.{Whole, Pieces}
 use Rattle.planner.specs.Objects.{ObjectStands, StandsAnswered, TellsReadable}
-use Rattle.planner.specs.Reading.{found_reply, IsFound, HasFound, AreFirst, HasBody, Finds, EndsOrFinds, AnsweredOrFound, reading_of, reading_end, piece_range, piece_end, TellsPiece, LeavesBytes}
+use Rattle.planner.specs.Reading.{found_reply, StopsOrFinds, IsFound, HasFound, AreFirst, HasBody, Finds, EndsOrFinds, AnsweredOrFound, reading_of, reading_end, piece_range, piece_end, TellsPiece, LeavesBytes}
 use Rattle.planner.proofs.Readings.{found, get_judged, size_is, fits, judged_found, not_modified_is_own, failed_is_own, beyond_is_own}
 use Rattle.planner.proofs.Steps.{object_by_head}
 
@@ -111,11 +112,11 @@ finds_on most m count a b c settings now given rest op label {P = P} within told
     record { told = told_trans 1 count first then (λ tree has so. so) (λ tree so is. is); is = finds.is; reads = finds.reads }
 
 -- the whole
-pub answered_or_found : (most : Bound) (a b : History) (settings : Settings) (op : Op) (label : Label) → beside_of op ≡ nothing_beside → (end : Result Reading PlanFault) → EndsOrFinds most 2 a b settings Any op label end
-    → AnsweredOrFound most a b settings op label (reading_end end)
-answered_or_found most a b settings op label none (Ok (Whole reply)) plans = answered_by none plans
-answered_or_found most a b settings op label none (Err fault) plans = answered_by none plans
-answered_or_found most a b settings op label none (Ok (Pieces it)) finds = finds
+pub answered_or_found : (most : Bound) (a b : History) (settings : Settings) (op : Op) (label : Label) → beside_of op ≡ nothing_beside → shows op ≡ alone → (end : Result Reading PlanFault) → StopsOrFinds 0 a b end
+    → EndsOrFinds most 2 a b settings Any op label end → AnsweredOrFound most a b settings op label (reading_end end)
+answered_or_found most a b settings op label none alike (Ok (Whole reply)) stops plans = answered_by none (subst (λ s. Stops s 0 a b (Ok reply)) (sym alike) stops) plans
+answered_or_found most a b settings op label none alike (Err fault) stops plans = answered_by none (record { so = tt }) plans
+answered_or_found most a b settings op label none alike (Ok (Pieces it)) stops finds = finds
 
 -- no bytes were got with it
 pub leaves_by : (bucket key : List ℕ) (head : ObjectHead) (j : Judged) → LeavesBytes (reading_of bucket key head j)

@@ -6,4 +6,5 @@ pub mod MakeBucket
 pub mod Readings
 pub mod Replies
 pub mod Steps
+pub mod Stopping
 pub mod Unchanged

@@ -25,6 +25,7 @@ use Rattle.account_calls.specs.declared.state.Known.TheVariants as known
 use Rattle.account_calls.specs.Answers.{most_calls, pieces}
 use Rattle.account_calls.specs.Calls.{Bound, amount, Any, Given, HasObject, IsStoredAs}
 use Rattle.account_calls.specs.Plan.{reply_of, Plans, Answered}
+use Rattle.account_calls.specs.Refusals.{alone, Stops}
 use Rattle.account_calls.specs.Told.{Told}
 use Rattle.planner.specs.declared.reading.Found.{Found}
 use Rattle.planner.specs.declared.reading.Reading.{Reading}
@@ -78,6 +79,12 @@ EndsOrFinds most count old new settings given op label (Err fault) = Plans most 
 abbrev pub AnsweredOrFound : Bound → History → History → Settings → Op → Label → Reading → Type 0
 AnsweredOrFound most old new settings op label (Whole reply) = Answered most old new settings op label known.Settled reply
 AnsweredOrFound most old new settings op label (Pieces found) = Finds 2 old new settings Any op label found
+
+-- a read, before which so many calls were made, stops at the call that shows why it is refused
+abbrev pub StopsOrFinds : ℕ → History → History → Result Reading PlanFault → Type 0
+StopsOrFinds before old new (Ok (Whole reply)) = Stops alone before old new (Ok reply)
+StopsOrFinds before old new (Ok (Pieces found)) = Unit {0}
+StopsOrFinds before old new (Err fault) = Unit {0}
 
 -- what a read comes to, by the head of an object that may be read
 abbrev pub reading_of : List ℕ → List ℕ → ObjectHead → Judged → Reading

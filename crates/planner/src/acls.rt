@@ -7,6 +7,7 @@ ghost use Rattle.s3_machine.specs.declared.operation.Op.TheVariants.{GetBucketAc
 ghost use Rattle.account_calls.specs.Calls.{always, Any, Given, TellsBucket};
 ghost use Rattle.account_calls.specs.Lent.{Stays};
 ghost use Rattle.account_calls.specs.declared.state.Known.TheVariants as known;
+ghost use Rattle.account_calls.specs.Refusals.{alone, Stops};
 ghost use Rattle.account_calls.specs.Plan.{Plans, ended};
 ghost use Rattle.planner.specs.Buckets.{set_reply};
 
@@ -74,6 +75,7 @@ pub(crate) fn get_object_acl<W: Swift>(
         → Plans (always 2) (W.history state.old.store.now) (W.history state.new.store.now)
         state.old.settings.now (Given Any) (GetObjectAcl bucket.now key.now) label known.Settled
         result }
+    ensures stops { Stops alone 0 (W.history state.old.store.now) (W.history state.new.store.now) result }
 {
     let Some(list) = head_bucket(state, bucket)? else {
         return Ok(Reply::Refused(Code::NoSuchBucket));
@@ -95,6 +97,7 @@ fn plan_object_acl_within<W: Swift>(
         → Plans (always 1) (W.history state.old.store.now) (W.history state.new.store.now)
         state.old.settings.now (Given (λ s. TellsBucket bucket.now s (Some list)))
         (GetObjectAcl bucket.now key.now) label known.Settled result }
+    ensures stops { Stops alone 1 (W.history state.old.store.now) (W.history state.new.store.now) result }
 {
     let Some(_) = account_calls::head_object(alloc, state, bucket, key)? else {
         return Ok(Reply::Refused(Code::NoSuchKey));

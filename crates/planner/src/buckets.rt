@@ -13,6 +13,7 @@ ghost use Rattle.account_calls.specs.declared.state.Known.TheVariants as known;
 ghost use Rattle.account_calls.specs.Purging.{MayMake, purge_calls};
 ghost use Rattle.upload_records.specs.Layout.{segments_name, uploads_name};
 ghost use Rattle.account_calls.specs.Plan.{Plans, ended};
+ghost use Rattle.account_calls.specs.Refusals.{alone, Stops, Unrefused};
 ghost use Rattle.planner.specs.Buckets.{dropped_reply, emptying, HasBareUploads, HasSides, HasUploads};
 
 use account_calls::{
@@ -42,6 +43,7 @@ pub(crate) fn create_bucket<W: Swift>(
     ensures plans { Plans (most_calls (CreateBucket bucket acl) (present (W.history state.old.store.now)))
         (W.history state.old.store.now) (W.history state.new.store.now) state.old.settings.now
         (Given Any) (CreateBucket bucket acl) label.now known.Settled result }
+    ensures stops { Stops alone 0 (W.history state.old.store.now) (W.history state.new.store.now) result }
 {
     match head_bucket(state, &bucket)? {
         None => plan_create_missing_bucket(alloc, state, bucket, acl, label),
@@ -64,6 +66,7 @@ fn plan_create_missing_bucket<W: Swift>(
     ensures plans { Plans (by_account (3 + emptying bucket (present (W.history state.old.store.now))))
         (W.history state.old.store.now) (W.history state.new.store.now) state.old.settings.now
         (Given (LacksBucket bucket)) (CreateBucket bucket acl) label.now known.Settled result }
+    ensures unrefused { Unrefused result }
 {
     let uploads = uploads_container(alloc, bucket.as_slice())?;
     let segments = segments_container(alloc, bucket.as_slice())?;
@@ -89,6 +92,7 @@ fn plan_create_bucket_segments<W: Swift>(
     ensures plans { Plans (by_account (2 + emptying bucket (present (W.history state.old.store.now))))
         (W.history state.old.store.now) (W.history state.new.store.now) state.old.settings.now
         (GivenOf (HasUploads bucket)) (CreateBucket bucket acl) label.now known.Settled result }
+    ensures unrefused { Unrefused result }
 {
     put_container_beside(state, &bucket, segments)?;
     empty_uploads(alloc, state, bucket, uploads, segments, acl, label)
@@ -112,6 +116,7 @@ fn empty_uploads<W: Swift>(
     ensures plans { Plans (by_account (1 + emptying bucket (present (W.history state.old.store.now))))
         (W.history state.old.store.now) (W.history state.new.store.now) state.old.settings.now
         (GivenOf (HasSides bucket)) (CreateBucket bucket acl) label.now known.Settled result }
+    ensures unrefused { Unrefused result }
 {
     let all = Bytes::new(alloc);
     purge(alloc, state, &bucket, uploads, &all)?;
@@ -135,6 +140,7 @@ fn empty_segments<W: Swift>(
         (1 + purge_calls (present (W.history state.old.store.now)) (segments_name bucket) []))
         (W.history state.old.store.now) (W.history state.new.store.now) state.old.settings.now
         (GivenOf (HasBareUploads bucket)) (CreateBucket bucket acl) label.now known.Settled result }
+    ensures unrefused { Unrefused result }
 {
     let all = Bytes::new(alloc);
     purge(alloc, state, &bucket, segments, &all)?;
@@ -154,6 +160,7 @@ fn plan_create_bare_bucket<W: Swift>(
     ensures plans { Plans (always 1) (W.history state.old.store.now) (W.history state.new.store.now)
         state.old.settings.now (GivenOf (MayMake bucket)) (CreateBucket bucket acl) label.now
         known.Settled result }
+    ensures unrefused { Unrefused result }
 {
     let name = bucket.copy()?;
     end_create_bucket_plan(put_bucket_container(state, bucket, acl, label.moment), name)
@@ -180,6 +187,7 @@ pub(crate) fn list_buckets<W: Swift>(
         → Plans (most_calls ListBuckets (present (W.history state.old.store.now)))
         (W.history state.old.store.now) (W.history state.new.store.now) state.old.settings.now
         (Given Any) ListBuckets label known.Settled result }
+    ensures unrefused { Unrefused result }
 {
     Ok(Reply::Buckets(account_calls::list_buckets(alloc, state)?))
 }

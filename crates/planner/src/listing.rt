@@ -8,6 +8,7 @@ ghost use Rattle.account_calls.specs.Answers.{pages_listed};
 ghost use Rattle.account_calls.specs.Calls.{by_account, Any, Given, TellsBucket};
 ghost use Rattle.account_calls.specs.Lent.{Stays};
 ghost use Rattle.account_calls.specs.declared.state.Known.TheVariants as known;
+ghost use Rattle.account_calls.specs.Refusals.{alone, Stops};
 ghost use Rattle.account_calls.specs.Plan.{Plans};
 ghost use Rattle.planner.specs.Listing.{objects_reply};
 
@@ -36,6 +37,7 @@ pub(crate) fn list_objects<W: Swift>(
         (by_account (1 + pages_listed bucket asked (present (W.history state.old.store.now))))
         (W.history state.old.store.now) (W.history state.new.store.now) state.old.settings.now
         (Given Any) (ListObjects bucket asked) label.now known.Settled result }
+    ensures stops { Stops alone 0 (W.history state.old.store.now) (W.history state.new.store.now) result }
 {
     let Some(list) = head_bucket(state, &bucket)? else {
         return Ok(Reply::Refused(Code::NoSuchBucket));
@@ -60,6 +62,7 @@ fn plan_list_objects_within<W: Swift>(
         (W.history state.old.store.now) (W.history state.new.store.now) state.old.settings.now
         (Given (λ s. TellsBucket bucket s (Some list))) (ListObjects bucket asked) label.now
         known.Settled result }
+    ensures stops { Stops alone 1 (W.history state.old.store.now) (W.history state.new.store.now) result }
 {
     if !may_read(label.caller, list) {
         return Ok(Reply::Refused(Code::AccessDenied));

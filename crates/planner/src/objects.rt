@@ -12,6 +12,7 @@ ghost use Rattle.account_calls.specs.Interpret.{IsShownHead, put_of};
 ghost use Rattle.account_calls.specs.Lent.{Stays};
 ghost use Rattle.account_calls.specs.declared.state.Known.TheVariants as known;
 ghost use Rattle.account_calls.specs.Plan.{ended, Plans, IsOwnReply};
+ghost use Rattle.account_calls.specs.Refusals.{alone, Stops, Unrefused};
 ghost use Rattle.account_calls.specs.Puts.{EnsuresIfDone, StandsIn};
 ghost use Rattle.planner.specs.Objects.{headed_reply};
 
@@ -48,6 +49,7 @@ pub(crate) fn put_object<W: Swift>(
     ensures stands { EnsuresIfDone (W.history state.new.store.now)
         (λ tree. StandsIn tree (put_of bucket key content_type meta.now body label.now.moment))
         result }
+    ensures stops { Stops alone 0 (W.history state.old.store.now) (W.history state.new.store.now) result }
 {
     let Some(list) = head_bucket(state, &bucket)? else {
         return Ok(Reply::Refused(Code::NoSuchBucket));
@@ -89,6 +91,7 @@ fn plan_put_object_within<W: Swift>(
     ensures stands { EnsuresIfDone (W.history state.new.store.now)
         (λ tree. StandsIn tree (put_of bucket key content_type meta.now body label.now.moment))
         result }
+    ensures stops { Stops alone 1 (W.history state.old.store.now) (W.history state.new.store.now) result }
 {
     if is_other_acl(acl, list) {
         return Ok(Reply::Refused(Code::NotImplemented));
@@ -135,6 +138,7 @@ fn plan_put_object_bytes<W: Swift>(
     ensures stands { EnsuresIfDone (W.history state.new.store.now)
         (λ tree. StandsIn tree (put_of bucket key content_type meta.now body label.now.moment))
         result }
+    ensures unrefused { Unrefused result }
 {
     let text = Bytes::from_slice(alloc, etag)?;
     end_put_object_plan(
@@ -179,6 +183,7 @@ pub(crate) fn head_object<W: Swift>(
     ensures plans { Plans (always 2) (W.history state.old.store.now) (W.history state.new.store.now)
         state.old.settings.now (Given Any) (HeadObject bucket.now key.now range conditions.now)
         label.now known.Settled result }
+    ensures stops { Stops alone 0 (W.history state.old.store.now) (W.history state.new.store.now) result }
 {
     let Some(list) = head_bucket(state, bucket)? else {
         return Ok(Reply::Refused(Code::NoSuchBucket));
@@ -202,6 +207,7 @@ fn plan_head_object_within<W: Swift>(
     ensures plans { Plans (always 1) (W.history state.old.store.now) (W.history state.new.store.now)
         state.old.settings.now (Given (λ s. TellsBucket bucket.now s (Some list)))
         (HeadObject bucket.now key.now range conditions.now) label.now known.Settled result }
+    ensures stops { Stops alone 1 (W.history state.old.store.now) (W.history state.new.store.now) result }
 {
     if !may_read(label.caller, list) {
         return Ok(Reply::Refused(Code::AccessDenied));
@@ -249,6 +255,7 @@ pub(crate) fn delete_object<W: Swift>(
     ensures plans { (label : Label)
         → Plans (always 2) (W.history state.old.store.now) (W.history state.new.store.now)
         state.old.settings.now (Given Any) (DeleteObject bucket key) label known.Settled result }
+    ensures stops { Stops alone 0 (W.history state.old.store.now) (W.history state.new.store.now) result }
 {
     let Some(list) = head_bucket(state, &bucket)? else {
         return Ok(Reply::Refused(Code::NoSuchBucket));
@@ -268,6 +275,7 @@ fn plan_delete_object_within<W: Swift>(
         → Plans (always 1) (W.history state.old.store.now) (W.history state.new.store.now)
         state.old.settings.now (Given (λ s. TellsBucket bucket s (Some list)))
         (DeleteObject bucket key) label known.Settled result }
+    ensures unrefused { Unrefused result }
 {
     end_delete_object_plan(account_calls::delete_object(state, bucket, key))
 }

@@ -7,6 +7,7 @@ ghost use Rattle.account_calls.specs.declared.state.Known.TheVariants as known;
 ghost use Rattle.account_calls.specs.Calls.{Any, Given};
 ghost use Rattle.account_calls.specs.Lent.{Stays};
 ghost use Rattle.account_calls.specs.Plan.{Plans};
+ghost use Rattle.account_calls.specs.Refusals.{shows, Stops};
 ghost use Rattle.account_calls.specs.Puts.{EnsuresIfDone};
 ghost use Rattle.account_calls.specs.Told.{LeavesAccount};
 ghost use Rattle.planner.specs.Objects.{ObjectStands, StandsAnswered};
@@ -112,6 +113,7 @@ fn plan<W: Swift>(
         (W.history state.old.store.now) (W.history state.new.store.now) state.old.settings.now
         (Given Any) op.old label.now known.Settled result }
     ensures stands { EnsuresIfDone (W.history state.new.store.now) (ObjectStands op.old label.now) result }
+    ensures stops { Stops (shows op.old) 0 (W.history state.old.store.now) (W.history state.new.store.now) result }
 {
     match op {
         Op::CreateBucket { bucket, acl } => {
@@ -143,6 +145,7 @@ fn plan_of_key<W: Swift>(
         (W.history state.old.store.now) (W.history state.new.store.now) state.old.settings.now
         (Given Any) op.old label.now known.Settled result }
     ensures stands { EnsuresIfDone (W.history state.new.store.now) (ObjectStands op.old label.now) result }
+    ensures stops { Stops (shows op.old) 0 (W.history state.old.store.now) (W.history state.new.store.now) result }
 {
     match op {
         Op::PutObject {
@@ -183,6 +186,7 @@ fn plan_lent<W: Swift>(
         (W.history state.old.store.now) (W.history state.new.store.now) state.old.settings.now
         (Given Any) op.now label.now known.Settled result }
     ensures stands { EnsuresIfDone (W.history state.new.store.now) (ObjectStands op.now label.now) result }
+    ensures stops { Stops (shows op.now) 0 (W.history state.old.store.now) (W.history state.new.store.now) result }
 {
     match op {
         Op::ListBuckets => list_buckets(alloc, state),

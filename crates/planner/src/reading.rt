@@ -10,7 +10,7 @@ ghost use Rattle.account_calls.specs.Interpret.{IsShownHead};
 ghost use Rattle.account_calls.specs.Lent.{Stays};
 ghost use Rattle.account_calls.specs.Told.{CountsOne, LeavesAccount};
 ghost use Rattle.account_calls.specs.declared.fault.PlanFault.TheVariants.{Failed};
-ghost use Rattle.planner.specs.Reading.{EndsOrFinds, GivesPieceOf, HasFound, IsFound, TellsPiece, piece_end, reading_of, LeavesBytes};
+ghost use Rattle.planner.specs.Reading.{StopsOrFinds, EndsOrFinds, GivesPieceOf, HasFound, IsFound, TellsPiece, piece_end, reading_of, LeavesBytes};
 
 use account_calls::{PlanFault, Settled, head_bucket};
 use gate_base::{Bytes, Copying};
@@ -60,6 +60,7 @@ pub(crate) fn find_object<W: Swift>(
         (GetObject bucket key range conditions.now) label.now result }
     ensures account { LeavesAccount (W.history state.old.store.now) (W.history state.new.store.now) }
     ensures leaves { IfOk result LeavesBytes }
+    ensures stops { StopsOrFinds 0 (W.history state.old.store.now) (W.history state.new.store.now) result }
 {
     let Some(list) = head_bucket(state, &bucket)? else {
         return Ok(Reading::Whole(Reply::Refused(Code::NoSuchBucket)));
@@ -86,6 +87,7 @@ fn find_object_within<W: Swift>(
         label.now result }
     ensures account { LeavesAccount (W.history state.old.store.now) (W.history state.new.store.now) }
     ensures leaves { IfOk result LeavesBytes }
+    ensures stops { StopsOrFinds 1 (W.history state.old.store.now) (W.history state.new.store.now) result }
 {
     if !may_read(label.caller, list) {
         return Ok(Reading::Whole(Reply::Refused(Code::AccessDenied)));

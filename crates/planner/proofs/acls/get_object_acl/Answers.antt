@@ -2,6 +2,7 @@ use Rattle.std.specs.Prelude.{None, Some}
 use Rattle.std.proofs.Common.{lit≤, rules}
 use Rattle.account_calls.proofs.lemmas.Ends.{told_nothing, answers, goes_on}
 use Rattle.planner.proofs.BucketSteps.{object_acl_missing}
+use Rattle.account_calls.proofs.lemmas.Refusals.{stops_behind}
 use Rattle.planner.proofs.acls.get_object_acl.Goals as goal
 
 pub returns-in_err-list-clause-plans : goal.returns-in_err-list-clause-plans
@@ -15,3 +16,6 @@ pub returns-clause-plans : goal.returns-clause-plans
 returns-clause-plans g c = λ label.
     goes_on (lit≤ tt) (Some c.in-Some.list) c.in-Some.is c.head_bucket.ensures.stays.settings c.in_ok-list.ensures.asks (c.plan_object_acl_within.ensures.plans label)
     (λ tree any told. told)
+
+pub returns-clause-stops : goal.returns-clause-stops
+returns-clause-stops g c = stops_behind c.in_ok-list.ensures.asks _ c.plan_object_acl_within.ensures.stops

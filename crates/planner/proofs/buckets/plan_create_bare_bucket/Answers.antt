@@ -1,7 +1,9 @@
-use Rattle.std.proofs.Common.{sym, subst, lit≤, rules}
+use Rattle.std.proofs.Common.{sym, subst, lit≤, rules, refl}
 use Rattle.account_calls.specs.Plan.{Plans}
 use Rattle.account_calls.proofs.lemmas.Ends.{out_of_memory, commits, becomes}
 use Rattle.planner.proofs.CreateBucket.{steps_made}
+use Rattle.account_calls.proofs.lemmas.Refusals.{unrefused_ended}
+use Rattle.account_calls.specs.Refusals.{Unrefused}
 use Rattle.planner.proofs.buckets.plan_create_bare_bucket.Goals as goal
 
 pub returns-clause-plans : goal.returns-clause-plans
@@ -12,3 +14,6 @@ returns-clause-plans g c =
 
 pub returns-in_err-name-clause-plans : goal.returns-in_err-name-clause-plans
 returns-in_err-name-clause-plans g c = out_of_memory _ _ c.from_residual.ensures.1
+
+pub returns-clause-unrefused : goal.returns-clause-unrefused
+returns-clause-unrefused g c = subst Unrefused (sym c.end_create_bucket_plan.ensures) (unrefused_ended _ (λ told. refl) _)

@@ -6,6 +6,7 @@ use Rattle.account_calls.specs.Calls.{by_account}
 use Rattle.account_calls.specs.Plan.{IsOwnReply}
 use Rattle.account_calls.proofs.lemmas.Ends.{as_wide, met_settled, needs_none, calls_in_vain, calls_end}
 use Rattle.planner.proofs.Listings.{items_are_own, list_refused, list_told}
+use Rattle.account_calls.specs.Refusals.{alone, Stops}
 use Rattle.planner.proofs.listing.plan_list_objects_within.Goals as goal
 
 pub returns-then-not-may_read-clause-plans : goal.returns-then-not-may_read-clause-plans
@@ -22,3 +23,6 @@ returns-clause-plans g c =
     calls_end most (as_wide most) met_settled c.in_ok-listed.listed refl _ c.in_ok-listed.ensures.asks
     (subst IsOwnReply (sym c.end_list_objects_plan.ensures) (items_are_own _ _ _ c.in_ok-listed.ensures.dated)) (search rules)
     (λ tree there told. (_, ap Ok c.end_list_objects_plan.ensures, list_told _ _ _ _ _ _ there (sym c.may_read.ensures ∙ c.if-not-may_read.false) _ told))
+
+pub returns-clause-stops : goal.returns-clause-stops
+returns-clause-stops g c = subst (λ r. Stops alone 1 _ _ (Ok r)) (sym c.end_list_objects_plan.ensures) (record { so = tt })

@@ -2,6 +2,7 @@ use Rattle.std.specs.Prelude.{None, Some}
 use Rattle.std.proofs.Common.{lit≤, rules}
 use Rattle.account_calls.proofs.lemmas.Ends.{told_nothing, answers, goes_on}
 use Rattle.planner.proofs.Steps.{delete_missing}
+use Rattle.account_calls.proofs.lemmas.Refusals.{stops_unrefused}
 use Rattle.planner.proofs.objects.delete_object.Goals as goal
 
 pub returns-in_err-list-clause-plans : goal.returns-in_err-list-clause-plans
@@ -12,3 +13,6 @@ returns-in_default-clause-plans g c = λ label. answers (lit≤ tt) None c.in_de
 
 pub returns-clause-plans : goal.returns-clause-plans
 returns-clause-plans g c = λ label. goes_on (lit≤ tt) (Some c.in-Some.list) c.in-Some.is c.head_bucket.ensures.stays.settings c.in_ok-list.ensures.asks (c.plan_delete_object_within.ensures.plans c.in-Some.list label) (λ tree any told. told)
+
+pub returns-clause-stops : goal.returns-clause-stops
+returns-clause-stops g c = stops_unrefused _ c.plan_delete_object_within.ensures.unrefused

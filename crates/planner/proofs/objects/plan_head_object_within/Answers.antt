@@ -1,8 +1,10 @@
 use Rattle.std.specs.Prelude.{None, Some, Ok}
-use Rattle.std.proofs.Common.{sym, ap, ◌∙◌, lit≤, rules}
+use Rattle.std.proofs.Common.{sym, ap, ◌∙◌, lit≤, rules, subst}
 use Rattle.account_calls.proofs.lemmas.Ends.{needs_none, told_nothing, answers, ends_by}
 use Rattle.planner.specs.Objects.{headed_reply}
 use Rattle.planner.proofs.Readings.{head_refused, head_none, head_there}
+use Rattle.planner.proofs.Stopping.{headed_stops}
+use Rattle.account_calls.specs.Refusals.{alone, Stops}
 use Rattle.planner.proofs.objects.plan_head_object_within.Goals as goal
 
 pub returns-then-not-may_read-clause-plans : goal.returns-then-not-may_read-clause-plans
@@ -18,3 +20,6 @@ pub returns-clause-plans : goal.returns-clause-plans
 returns-clause-plans g c =
     ends_by (lit≤ tt) (Some c.in-Some.head) c.in-Some.is _ c.in_ok-head.ensures.asks c.end_head_object_plan.ensures.own (search rules)
     (λ tree there object. (headed_reply c.args.range c.args.conditions.now c.in-Some.head, ap Ok c.end_head_object_plan.ensures.reply, head_there _ _ _ _ _ _ _ _ there (sym c.may_read.ensures ∙ c.if-not-may_read.false) _ object))
+
+pub returns-clause-stops : goal.returns-clause-stops
+returns-clause-stops g c = subst (λ r. Stops alone 1 _ _ (Ok r)) (sym c.end_head_object_plan.ensures.reply) (headed_stops c.args.range c.args.conditions.now c.in-Some.head c.in_ok-head.ensures.asks.grows.calls)

@@ -1,6 +1,7 @@
 use Rattle.std.proofs.Common.{sym, ◌∙◌, rules}
 use Rattle.account_calls.proofs.lemmas.Ends.{needs_none}
 use Rattle.planner.proofs.Steps.{put_other}
+use Rattle.account_calls.proofs.lemmas.Refusals.{stops_unrefused}
 use Rattle.planner.proofs.objects.plan_put_object_within.Goals as goal
 
 pub returns-then-is_other_acl-clause-plans : goal.returns-then-is_other_acl-clause-plans
@@ -11,3 +12,6 @@ returns-clause-plans g c = rw c.into_bytes.ensures at c.plan_put_object_bytes.en
 
 pub returns-clause-stands : goal.returns-clause-stands
 returns-clause-stands g c = rw c.into_bytes.ensures at c.plan_put_object_bytes.ensures.stands
+
+pub returns-clause-stops : goal.returns-clause-stops
+returns-clause-stops g c = stops_unrefused _ c.plan_put_object_bytes.ensures.unrefused

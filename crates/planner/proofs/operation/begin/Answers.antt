@@ -7,10 +7,10 @@ use Rattle.planner.proofs.operation.begin.Goals as goal
 
 pub returns-in-GetObject-clause-answered : goal.returns-in-GetObject-clause-answered
 returns-in-GetObject-clause-answered g c = rw (c.in-GetObject.is, c.reading_end.ensures)
-    (rw (c.taken_text.ensures, c.taken_text-in-GetObject.ensures) at (answered_or_found _ _ _ _ _ _ refl _ c.find_object.ensures.finds))
+    (rw (c.taken_text.ensures, c.taken_text-in-GetObject.ensures) at (answered_or_found _ _ _ _ _ _ refl refl _ c.find_object.ensures.stops c.find_object.ensures.finds))
 
 pub returns-in_default-clause-answered : goal.returns-in_default-clause-answered
-returns-in_default-clause-answered g c = subst (Answered _ _ _ _ _ _ _) (sym c.reply_of.ensures) (answered_by (none_beside _ c.requires.own) c.plan.ensures.plans)
+returns-in_default-clause-answered g c = subst (Answered _ _ _ _ _ _ _) (sym c.reply_of.ensures) (answered_by (none_beside _ c.requires.own) c.plan.ensures.stops c.plan.ensures.plans)
 
 pub returns-in-GetObject-clause-account : goal.returns-in-GetObject-clause-account
 returns-in-GetObject-clause-account g c = λ reads. c.find_object.ensures.account

@@ -1,4 +1,6 @@
 use Rattle.account_calls.proofs.lemmas.Puts.{ensures_nothing}
+use Rattle.account_calls.proofs.lemmas.Refusals.{stops_at_once}
+use Rattle.std.proofs.Common.{lit≤}
 use Rattle.planner.proofs.operation.plan.Goals as goal
 
 pub returns-in-DeleteBucket-clause-plans : goal.returns-in-DeleteBucket-clause-plans
@@ -18,3 +20,9 @@ returns-in-PutBucketAcl-clause-stands g c = rw c.in-PutBucketAcl.is (ensures_not
 
 pub returns-in-ListObjects-clause-stands : goal.returns-in-ListObjects-clause-stands
 returns-in-ListObjects-clause-stands g c = rw c.in-ListObjects.is (ensures_nothing _)
+
+pub returns-in-DeleteBucket-clause-stops : goal.returns-in-DeleteBucket-clause-stops
+returns-in-DeleteBucket-clause-stops g c = rw c.in-DeleteBucket.is (stops_at_once (lit≤ tt) (lit≤ tt) _ (c.delete_bucket.ensures.plans c.args.label.now).grows.calls)
+
+pub returns-in-PutBucketAcl-clause-stops : goal.returns-in-PutBucketAcl-clause-stops
+returns-in-PutBucketAcl-clause-stops g c = rw c.in-PutBucketAcl.is (stops_at_once (lit≤ tt) (lit≤ tt) _ (c.put_bucket_acl.ensures.plans c.args.label.now).grows.calls)

@@ -5,6 +5,7 @@ use Rattle.account_calls.specs.Calls.{Any, TellsBucket}
 use Rattle.account_calls.proofs.lemmas.Ends.{answers}
 use Rattle.planner.proofs.Finding.{found_nothing, finds_on}
 use Rattle.planner.proofs.Readings.{get_missing}
+use Rattle.planner.proofs.Stopping.{finds_behind}
 use Rattle.planner.proofs.reading.find_object.Goals as goal
 
 pub returns-in_err-list-clause-finds : goal.returns-in_err-list-clause-finds
@@ -24,3 +25,6 @@ returns-in_default-clause-account g c = c.in_ok-list.ensures.leaves
 
 pub returns-clause-account : goal.returns-clause-account
 returns-clause-account g c = λ observable. c.find_object_within.ensures.account (c.in_ok-list.ensures.asks.grows.on.observable observable) ∙ c.in_ok-list.ensures.leaves observable
+
+pub returns-clause-stops : goal.returns-clause-stops
+returns-clause-stops g c = finds_behind c.in_ok-list.ensures.asks _ c.find_object_within.ensures.stops

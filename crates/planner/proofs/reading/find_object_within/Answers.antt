@@ -6,6 +6,7 @@ use Rattle.account_calls.specs.Interpret.{IsShownHead}
 use Rattle.account_calls.proofs.lemmas.Ends.{needs_none, answers}
 use Rattle.planner.proofs.Finding.{found_ends, found_nothing, leaves_by}
 use Rattle.planner.proofs.Readings.{get_refused, get_none}
+use Rattle.planner.proofs.Stopping.{found_stops}
 use Rattle.planner.proofs.reading.find_object_within.Goals as goal
 
 pub returns-then-not-may_read-clause-finds : goal.returns-then-not-may_read-clause-finds
@@ -36,3 +37,6 @@ returns-clause-account g c = c.in_ok-head.ensures.leaves
 
 pub returns-clause-leaves : goal.returns-clause-leaves
 returns-clause-leaves g c = rw c.reading_of.ensures (leaves_by c.args.bucket c.args.key c.in-Some.head _)
+
+pub returns-clause-stops : goal.returns-clause-stops
+returns-clause-stops g c = rw c.reading_of.ensures (found_stops _ _ c.in-Some.head _ c.in_ok-head.ensures.asks.grows.calls)

@@ -1,0 +1,44 @@
+-- A read stops at the call that shows why it is refused.
+use Rattle.std.specs.Prelude.{◌≡◌, ◌≤◌, ◌+◌, ℕ, List, [], Option, Result, Ok, Err}
+use Rattle.std.proofs.Common.{arith}
+use Rattle.s3_machine.specs.declared.operation.ObjectHead.{ObjectHead}
+use Rattle.s3_machine.specs.declared.reading.Conditions.{Conditions}
+use Rattle.s3_machine.specs.declared.reading.Judged.{Judged}
+use Rattle.s3_machine.specs.declared.reading.Judged.TheVariants.{PreconditionFailed, NotModified, InvalidRange, Bytes}
+use Rattle.s3_machine.specs.declared.reading.Range.{Range}
+use Rattle.s3_machine.specs.Reading.{judged}
+use Rattle.swift_calls.specs.Account.{SwiftAccount}
+use Rattle.swift_calls.specs.History.{History}
+use Rattle.account_calls.specs.declared.fault.PlanFault.{PlanFault}
+use Rattle.account_calls.specs.Calls.{Asks, always}
+use Rattle.account_calls.specs.Refusals.{alone, Stops}
+use Rattle.account_calls.proofs.lemmas.Refusals.{stops_behind}
+use Rattle.s3_machine.specs.Step.{read_by}
+use Rattle.planner.specs.Objects.{headed_reply}
+use Rattle.planner.specs.declared.reading.Reading.{Reading}
+use Rattle.planner.specs.declared.reading.Reading.TheVariants.{Whole, Pieces}
+use Rattle.planner.specs.Reading.{StopsOrFinds, reading_of}
+
+module _ {a b : History} where
+  -- by the head of the object
+  pub found_stops : (bucket key : List ℕ) (head : ObjectHead) (j : Judged) → b.called ≤ a.called + 1 → StopsOrFinds 1 a b (Ok (reading_of bucket key head j))
+  found_stops bucket key head PreconditionFailed within = record { so = omega arith }
+  found_stops bucket key head NotModified within = record { so = omega arith }
+  found_stops bucket key head InvalidRange within = record { so = omega arith }
+  found_stops bucket key head (Bytes span partial) within = tt
+
+  headed_by : (head : ObjectHead) (j : Judged) → b.called ≤ a.called + 1 → Stops alone 1 a b (Ok (read_by head (λ span. []) j))
+  headed_by head PreconditionFailed within = record { so = omega arith }
+  headed_by head NotModified within = record { so = omega arith }
+  headed_by head InvalidRange within = record { so = omega arith }
+  headed_by head (Bytes span partial) within = record { so = tt }
+
+  pub headed_stops : (range : Option Range) (conditions : Conditions) (head : ObjectHead) → b.called ≤ a.called + 1 → Stops alone 1 a b (Ok (headed_reply range conditions head))
+  headed_stops range conditions head within = headed_by head (judged range conditions head) within
+
+-- a call was made, and then the rest of it stops
+pub finds_behind : {T : Type 0} {asked : SwiftAccount → Type 0} {P : SwiftAccount → SwiftAccount → T → Type 0} {value : Result T PlanFault} {a b c : History} → Asks (always 1) a b asked P value
+    → (end : Result Reading PlanFault) → StopsOrFinds 1 b c end → StopsOrFinds 0 a c end
+finds_behind asks (Ok (Whole reply)) stops = stops_behind asks (Ok reply) stops
+finds_behind asks (Ok (Pieces found)) stops = tt
+finds_behind asks (Err fault) stops = tt
