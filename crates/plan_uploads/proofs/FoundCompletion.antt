@@ -1,9 +1,9 @@
 -- What is found of the upload that a completion is of, over consistent accounts on which no completion is sealed; and the steps by
 -- it that change nothing.
-use Rattle.std.specs.Prelude.{◌≡◌, ℕ, true, false, bytes_eq, ◌&&◌, cond, List, Option, Some, None}
+use Rattle.std.specs.Prelude.{◌≡◌, ◌≤◌, is_some, ℕ, Bool, true, false, bytes_eq, ◌&&◌, cond, List, Option, Some, None}
 use Rattle.std.specs.Cmp.Lexicographic.{pointwise}
 use Rattle.std.specs.FinMap.{get}
-use Rattle.std.proofs.Common.{refl, sym, ap, subst, ◌∙◌, true≢false}
+use Rattle.std.proofs.Common.{refl, sym, ap, subst, ◌∙◌, true≢false, arith, lit≤}
 use Rattle.std.proofs.lemmas.Slice.Eq.{bytes_eq-Decides}
 use Rattle.gate_base.specs.declared.page.Pair.{Pair}
 use Rattle.s3_names.specs.Bucket.{is_bucket}
@@ -24,7 +24,7 @@ use Rattle.upload_texts.specs.declared.record.Record.TheVariants.{Open, Done}
 use Rattle.upload_records.specs.Layout.{segments_name, uploads_name}
 use Rattle.upload_records.specs.Native.{IsSettled, bucket_from, kept_by, record_at, s3_state}
 use Rattle.upload_records.specs.Consistent.{IsConsistent, IsThere}
-use Rattle.account_calls.specs.Answers.{named_by}
+use Rattle.account_calls.specs.Answers.{completion_calls, kept_in, named_by}
 use Rattle.account_calls.specs.Calls.{LacksBucket}
 use Rattle.account_calls.specs.Listing.{TellsOf}
 use Rattle.upload_calls.specs.Found.{LacksUpload}
@@ -128,3 +128,25 @@ pub named_alike : {bucket key text : List ℕ} {list : List Listed} {opened : Op
 named_alike {bucket = bucket} {key = key} {text = text} {list = list} {opened = opened} {old = old} is tells =
     let it : IsOpenAs bucket key text opened old = subst (TellsToComplete bucket key text list old) is tells.of_account in
     ap (λ tree. named_by tree bucket (id_digits opened.id)) tells.same ∙ ap (named_by old bucket) (sym it.is)
+
+-- ---- how many calls there may be
+
+two_if : (t : Bool) (n : ℕ) → 2 ≤ n → 2 ≤ cond t 2 n
+two_if true n within = lit≤ tt
+two_if false n within = within
+
+-- at least the two by which the upload is found
+pub two_calls : (n : ℕ) (state : State) (bucket key text : List ℕ) (list : List Listed) → 2 ≤ n → 2 ≤ completion_calls n state bucket key text list
+two_calls n state bucket key text list within = two_if (is_some (kept_as key list (kept_in (get state bucket) text))) n within
+
+-- and more where the upload is open, since no completion of it is kept then
+pub unkept_calls : (m n : ℕ) {opened : Opened} {told : List Listed} {new : SwiftAccount} {value : ToComplete} (old : SwiftAccount) (bucket key text : List ℕ) (list : List Listed) → is_bucket bucket ≡ true
+    → value ≡ found.Open opened → TellsOf (TellsToComplete bucket key text told) old new value → m ≤ n → m ≤ completion_calls n (s3_state old) bucket key text list
+unkept_calls m n {opened = opened} {told = told} old bucket key text list is same tells within =
+    let open_as : IsOpenAs bucket key text opened old = subst (TellsToComplete bucket key text told old) same tells.of_account in
+    let it = bucket_there old bucket is open_as.settled open_as.there in
+    let unkept : kept_as key list (kept_in (get (s3_state old) bucket) text) ≡ None =
+    ap (λ o. kept_as key list (kept_in o text)) it.is
+    ∙ ap (kept_as key list) (kept_is old bucket is open_as.settled open_as.there text)
+    ∙ ap (λ r. kept_as key list (kept_by r)) open_as.reads in
+    subst (λ o. m ≤ cond (is_some o) 2 n) (sym unkept) within

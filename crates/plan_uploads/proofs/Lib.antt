@@ -16,5 +16,6 @@ pub mod SealCalls
 pub mod SealedTexts
 pub mod Searched
 pub mod Steps
+pub mod Stopping
 pub mod UploadRows
 pub mod UploadsListed

@@ -34,6 +34,7 @@ use Rattle.account_calls.specs.Answers.{may_be_sealed}
 use Rattle.account_calls.specs.Calls.{always, Becomes, GivenOf, Grows, LacksBucket, Met, Writes}
 use Rattle.account_calls.specs.Fault.{CausesFault}
 use Rattle.account_calls.specs.Plan.{reply_of}
+use Rattle.account_calls.specs.Refusals.{alone, shown_by}
 use Rattle.account_calls.specs.Stutters.{LastFailed}
 use Rattle.account_calls.specs.declared.fault.PlanFault.{PlanFault}
 use Rattle.account_calls.specs.declared.fault.PlanFault.TheVariants.{Failed, Memory, Inconsistent}
@@ -87,6 +88,17 @@ abbrev pub to_complete_by : Option Record → List ℕ → ℕ → List Listed �
 to_complete_by None key id list = found.NoUpload
 to_complete_by (Some (Open under content_type meta started)) key id list = opened_by under key id content_type meta started
 to_complete_by (Some (Done under kept etag started moment)) key id list = done_by under key kept list etag
+
+-- the bucket is missing
+abbrev pub lacks_bucket : ToComplete → Bool
+lacks_bucket found.NoBucket = true
+lacks_bucket found.NoUpload = false
+lacks_bucket (found.Again etag) = false
+lacks_bucket (found.Open opened) = false
+
+-- where it is, the first call told so, and none follows
+abbrev pub StopsAtBucket : History → History → Result ToComplete PlanFault → Type 0
+StopsAtBucket old new result = IfOk result (λ found. lacks_bucket found ≡ true → new.called ≤ old.called + 1)
 
 -- ---- the parts that a completion lists
 
@@ -192,6 +204,10 @@ end_in (Err fault) = Err fault
 abbrev pub known_in : Result Completing PlanFault → Known
 known_in (Ok completing) = completing.known
 known_in (Err fault) = known.Settled
+
+-- it isn't refused, or for a reason that the parts of the upload show
+abbrev pub ShownByParts : Result Reply PlanFault → Type 0
+ShownByParts end = IfOk end (λ reply. shown_by alone reply ≡ None)
 
 -- one may be sealed still only where it was done, or where it broke off
 abbrev pub LeavesUnsureOnly : Result Completing PlanFault → Type 0

@@ -10,6 +10,7 @@ ghost use Rattle.account_calls.specs.Answers.{clears, named_by, pages};
 ghost use Rattle.account_calls.specs.Calls.{by_account, Any, Given, GivenOf};
 ghost use Rattle.account_calls.specs.Lent.{Stays};
 ghost use Rattle.account_calls.specs.declared.state.Known.TheVariants as known;
+ghost use Rattle.account_calls.specs.Refusals.{alone, Stops, Unrefused};
 ghost use Rattle.account_calls.specs.Plan.{Plans};
 ghost use Rattle.upload_calls.specs.Found.{IsOpenUpload};
 ghost use Rattle.plan_uploads.specs.Plans.{LeavesBeside, gone_behind};
@@ -44,6 +45,7 @@ pub(crate) fn abort_upload<W: Swift>(
         (Given Any) (AbortUpload bucket.now key.now text.now) label known.Settled result }
     ensures beside { (label : Label) → LeavesBeside (clears bucket.now text.now) label
         (W.history state.old.store.now) (W.history state.new.store.now) (Given Any) result }
+    ensures stops { Stops alone 0 (W.history state.old.store.now) (W.history state.new.store.now) result }
 {
     match find_upload(alloc, state, bucket, key, text)? {
         Found::NoBucket => Ok(Reply::Refused(Code::NoSuchBucket)),
@@ -72,6 +74,7 @@ fn abort_open<W: Swift>(
     ensures beside { (key text : List ℕ) (label : Label)
         → LeavesBeside (clears bucket.now text) label (W.history state.old.store.now)
         (W.history state.new.store.now) (GivenOf (IsOpenUpload bucket.now key text id)) result }
+    ensures unrefused { Unrefused result }
 {
     let folder = segments_container(alloc, bucket.as_slice())?;
     let prefix = segments_prefix(alloc, id)?;
@@ -101,6 +104,7 @@ fn plan_abort_and_purge_upload<W: Swift>(
     ensures beside { (key text : List ℕ) (label : Label)
         → LeavesBeside (clears bucket.now text) label (W.history state.old.store.now)
         (W.history state.new.store.now) (GivenOf (IsOpenUpload bucket.now key text id)) result }
+    ensures unrefused { Unrefused result }
 {
     drop_record(alloc, state, bucket, id)?;
     end_abort_upload_plan(purge(alloc, state, bucket, folder, prefix))

@@ -9,13 +9,14 @@ ghost use Rattle.s3_machine.specs.declared.operation.Label.{Label};
 ghost use Rattle.s3_machine.specs.declared.operation.Listed.{Listed};
 ghost use Rattle.s3_machine.specs.declared.operation.Op.TheVariants.{CompleteUpload};
 ghost use Rattle.swift_calls.specs.History.{present};
-ghost use Rattle.upload_records.specs.Native.{sealed_sub_manifests, sub_manifests};
-ghost use Rattle.account_calls.specs.Answers.{named_by, pages};
+ghost use Rattle.upload_records.specs.Native.{s3_state, sealed_sub_manifests, sub_manifests};
+ghost use Rattle.account_calls.specs.Answers.{completion_calls, named_by, pages};
 ghost use Rattle.account_calls.specs.Calls.{always, by_account, Any, Given, GivenOf};
 ghost use Rattle.account_calls.specs.Lent.{Stays};
+ghost use Rattle.account_calls.specs.Refusals.{alone, Stops, Unrefused};
 ghost use Rattle.account_calls.specs.Plan.{Plans};
 ghost use Rattle.account_calls.specs.Puts.{EnsuresIfDone};
-ghost use Rattle.plan_uploads.specs.Completing.{Ascend, HasParts, IsOpenAs, LeavesUnsureOnly, MayComplete, StandsAs, StandsCompleted, ToldOrStands, answered_by, by_number, completion_of, end_in, known_in, listed_parts};
+ghost use Rattle.plan_uploads.specs.Completing.{Ascend, HasParts, IsOpenAs, LeavesUnsureOnly, MayComplete, ShownByParts, StandsAs, StandsCompleted, ToldOrStands, answered_by, by_number, completion_of, end_in, known_in, listed_parts};
 
 use crate::chosen::{chosen_parts, has_small_chosen_part};
 use crate::completed::{Opened, ToComplete, find_upload_to_complete};
@@ -54,9 +55,10 @@ pub(crate) fn complete_upload<W: Swift>(
     requires list { IsProperList list.now }
     requires moment { label.now.moment < moment_limit }
     ensures stays { Stays state.old state.new }
-    ensures plans { Plans (by_account
+    ensures plans { Plans (by_account (completion_calls
         (6 + pages (named_by (present (W.history state.old.store.now)) bucket.now text.now)
-        + sub_manifests (length list.now)))
+        + sub_manifests (length list.now)) (s3_state (present (W.history state.old.store.now)))
+        bucket.now key.now text.now list.now))
         (W.history state.old.store.now) (W.history state.new.store.now) state.old.settings.now
         (Given Any) (CompleteUpload bucket.now key.now text.now list.now) label.now
         (known_in result) (end_in result) }
@@ -64,6 +66,7 @@ pub(crate) fn complete_upload<W: Swift>(
     ensures stands { EnsuresIfDone (W.history state.new.store.now)
         (ToldOrStands (known_in result) bucket.now key.now list.now label.now.moment
         (W.history state.old.store.now) (W.history state.new.store.now)) (end_in result) }
+    ensures stops { Stops alone 0 (W.history state.old.store.now) (W.history state.new.store.now) (end_in result) }
 {
     match find_upload_to_complete(alloc, state, bucket, key, text, list.as_slice())? {
         ToComplete::NoBucket => Ok(end_complete_upload_refused(Code::NoSuchBucket)),
@@ -124,6 +127,7 @@ fn complete_open<W: Swift>(
     ensures stands { EnsuresIfDone (W.history state.new.store.now)
         (StandsCompleted (known_in result) bucket.now key.now list.now label.now.moment)
         (end_in result) }
+    ensures stops { Stops alone 2 (W.history state.old.store.now) (W.history state.new.store.now) (end_in result) }
 {
     if !rises(list.as_slice()) {
         return Ok(end_complete_upload_refused(Code::InvalidPartOrder));
@@ -167,6 +171,7 @@ fn complete_by<W: Swift>(
     ensures stands { EnsuresIfDone (W.history state.new.store.now)
         (StandsCompleted (known_in result) bucket.now key.now list.now label.now.moment)
         (end_in result) }
+    ensures shown { ShownByParts (end_in result) }
 {
     let Some(chosen) = chosen_parts(alloc, parts, list.as_slice())? else {
         return Ok(end_complete_upload_refused(Code::InvalidPart));
@@ -202,6 +207,7 @@ fn complete_chosen<W: Swift>(
     ensures stands { EnsuresIfDone (W.history state.new.store.now)
         (StandsCompleted (known_in result) bucket.now key.now list.now label.now.moment)
         (end_in result) }
+    ensures shown { ShownByParts (end_in result) }
 {
     if has_small_chosen_part(state.settings().least_part, chosen.as_slice()) {
         return Ok(end_complete_upload_refused(Code::EntityTooSmall));
@@ -267,6 +273,7 @@ fn complete_sealed<W: Swift>(
     ensures unsure { LeavesUnsureOnly result }
     ensures stands { EnsuresIfDone (W.history state.new.store.now)
         (StandsAs (known_in result) sealed.now) (end_in result) }
+    ensures unrefused { Unrefused (end_in result) }
 {
     if !sealed.has_text() {
         return Err(PlanFault::Inconsistent);

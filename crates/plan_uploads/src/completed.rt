@@ -1,5 +1,5 @@
 //! The upload that a completion is of.
-ghost use Rattle.std.specs.Prelude.{◌≡◌, true};
+ghost use Rattle.std.specs.Prelude.{◌≡◌, false, true, IfOk};
 ghost use Rattle.s3_names.specs.Bucket.{is_bucket};
 ghost use Rattle.s3_names.specs.Id.{id_digits};
 ghost use Rattle.upload_records.specs.Native.{IsSettled};
@@ -7,7 +7,7 @@ ghost use Rattle.account_calls.specs.Calls.{always, Asks, GivenOf};
 ghost use Rattle.account_calls.specs.Lent.{Stays};
 ghost use Rattle.account_calls.specs.Listing.{TellsOf};
 ghost use Rattle.upload_calls.specs.Records.{InBucket};
-ghost use Rattle.plan_uploads.specs.Completing.{TellsToComplete, done_by, opened_by, to_complete_by};
+ghost use Rattle.plan_uploads.specs.Completing.{StopsAtBucket, TellsToComplete, lacks_bucket, done_by, opened_by, to_complete_by};
 
 use account_calls::{PlanFault, Settled, head_bucket};
 use gate_base::Bytes;
@@ -56,6 +56,7 @@ pub(crate) fn find_upload_to_complete<W: Swift>(
     ensures stays { Stays state.old state.new }
     ensures asks { Asks (always 2) (W.history state.old.store.now) (W.history state.new.store.now)
         IsSettled (TellsOf (TellsToComplete bucket.now key.now text.now list.now)) result }
+    ensures missing { StopsAtBucket (W.history state.old.store.now) (W.history state.new.store.now) result }
 {
     let Some(_) = head_bucket(state, bucket)? else {
         return Ok(ToComplete::NoBucket);
@@ -79,6 +80,7 @@ fn find_recorded<W: Swift>(
     ensures stays { Stays state.old state.new }
     ensures asks { Asks (always 1) (W.history state.old.store.now) (W.history state.new.store.now)
         (GivenOf (InBucket bucket.now)) (TellsOf (TellsToComplete bucket.now key.now (id_digits id) list.now)) result }
+    ensures there { IfOk result (λ found. lacks_bucket found ≡ false) }
 {
     let record = get_record(alloc, state, bucket, id)?;
     Ok(to_complete(record, key, id, list))

@@ -10,6 +10,7 @@ ghost use Rattle.account_calls.specs.Answers.{opens_in, records_of, segments_of}
 ghost use Rattle.account_calls.specs.Calls.{always, by_account, Any, Given, GivenOf, TellsBucket};
 ghost use Rattle.account_calls.specs.Lent.{Stays};
 ghost use Rattle.account_calls.specs.declared.state.Known.TheVariants as known;
+ghost use Rattle.account_calls.specs.Refusals.{alone, Stops, Unrefused};
 ghost use Rattle.account_calls.specs.Plan.{ended, Plans};
 ghost use Rattle.account_calls.specs.Puts.{EnsuresIfDone};
 ghost use Rattle.plan_uploads.specs.Plans.{LeavesBeside, MayStart, StandsStarted};
@@ -49,6 +50,7 @@ pub(crate) fn create_upload<W: Swift>(
         (W.history state.new.store.now) (Given Any) result }
     ensures stands { EnsuresIfDone (W.history state.new.store.now)
         (StandsStarted bucket key content_type meta label.now.moment) result }
+    ensures stops { Stops alone 0 (W.history state.old.store.now) (W.history state.new.store.now) result }
 {
     let Some(list) = head_bucket(state, &bucket)? else {
         return Ok(Reply::Refused(Code::NoSuchBucket));
@@ -92,6 +94,7 @@ fn plan_create_upload_within<W: Swift>(
         (W.history state.new.store.now) (Given (λ s. TellsBucket bucket s (Some list))) result }
     ensures stands { EnsuresIfDone (W.history state.new.store.now)
         (StandsStarted bucket key content_type meta label.now.moment) result }
+    ensures stops { Stops alone 1 (W.history state.old.store.now) (W.history state.new.store.now) result }
 {
     if is_other_acl(acl, list) {
         return Ok(Reply::Refused(Code::NotImplemented));
@@ -137,6 +140,7 @@ fn start<W: Swift>(
         (W.history state.new.store.now) (GivenOf (MayStart bucket list label.now.draw id)) result }
     ensures stands { EnsuresIfDone (W.history state.new.store.now)
         (StandsStarted bucket key content_type meta label.now.moment) result }
+    ensures unrefused { Unrefused result }
 {
     let name = key.copy()?;
     end_create_upload_plan(

@@ -6,6 +6,7 @@ ghost use Rattle.account_calls.specs.Answers.{beside_of, is_upload, most_calls};
 ghost use Rattle.account_calls.specs.declared.state.Known.TheVariants as known;
 ghost use Rattle.account_calls.specs.Calls.{Any, Given};
 ghost use Rattle.account_calls.specs.Lent.{Stays};
+ghost use Rattle.account_calls.specs.Refusals.{shows, Stops};
 ghost use Rattle.account_calls.specs.Plan.{reply_of, Plans, Answered};
 ghost use Rattle.plan_uploads.specs.Completing.{end_in, known_in};
 ghost use Rattle.account_calls.specs.Puts.{EnsuresIfDone, IfDone};
@@ -125,6 +126,7 @@ fn plan<W: Swift>(
     ensures stands { EnsuresIfDone (W.history state.new.store.now)
         (UploadStands op.old label.now known.Settled (W.history state.old.store.now)
         (W.history state.new.store.now)) result }
+    ensures stops { Stops (shows op.old) 0 (W.history state.old.store.now) (W.history state.new.store.now) result }
 {
     match op {
         Op::CreateUpload {
@@ -164,6 +166,7 @@ fn plan_of_open<W: Swift>(
     ensures stands { EnsuresIfDone (W.history state.new.store.now)
         (UploadStands op.old label.now known.Settled (W.history state.old.store.now)
         (W.history state.new.store.now)) result }
+    ensures stops { Stops (shows op.old) 0 (W.history state.old.store.now) (W.history state.new.store.now) result }
 {
     match op {
         Op::UploadPart {
@@ -204,6 +207,7 @@ fn plan_listing<W: Swift>(
     ensures stands { EnsuresIfDone (W.history state.new.store.now)
         (UploadStands op.old label.now known.Settled (W.history state.old.store.now)
         (W.history state.new.store.now)) result }
+    ensures stops { Stops (shows op.old) 0 (W.history state.old.store.now) (W.history state.new.store.now) result }
 {
     match op {
         Op::ListUploads {

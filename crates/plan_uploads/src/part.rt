@@ -10,6 +10,7 @@ ghost use Rattle.s3_machine.specs.declared.operation.Reply.TheVariants.{Stored};
 ghost use Rattle.account_calls.specs.Calls.{always, Any, Given, GivenOf};
 ghost use Rattle.account_calls.specs.Lent.{Stays};
 ghost use Rattle.account_calls.specs.declared.state.Known.TheVariants as known;
+ghost use Rattle.account_calls.specs.Refusals.{alone, Stops, Unrefused};
 ghost use Rattle.account_calls.specs.Plan.{ended, Plans};
 ghost use Rattle.account_calls.specs.Puts.{EnsuresIfDone, StandsIn};
 ghost use Rattle.upload_calls.specs.Found.{IsOpenUpload};
@@ -46,6 +47,7 @@ pub(crate) fn upload_part<W: Swift>(
         label.now known.Settled result }
     ensures stands { EnsuresIfDone (W.history state.new.store.now)
         (StandsPart bucket.now text.now number body label.now.moment) result }
+    ensures stops { Stops alone 0 (W.history state.old.store.now) (W.history state.new.store.now) result }
 {
     match find_upload(alloc, state, bucket, key, text)? {
         Found::NoBucket => Ok(Reply::Refused(Code::NoSuchBucket)),
@@ -75,6 +77,7 @@ fn part_into<W: Swift>(
         (UploadPart bucket.now key text number body) label.now known.Settled result }
     ensures stands { EnsuresIfDone (W.history state.new.store.now)
         (λ tree. StandsIn tree (put_part_of bucket.now id number body label.now.moment)) result }
+    ensures unrefused { Unrefused result }
 {
     let etag = body.etag();
     plan_upload_part_bytes(
@@ -112,6 +115,7 @@ fn plan_upload_part_bytes<W: Swift>(
         (UploadPart bucket.now key text number body) label.now known.Settled result }
     ensures stands { EnsuresIfDone (W.history state.new.store.now)
         (λ tree. StandsIn tree (put_part_of bucket.now id number body label.now.moment)) result }
+    ensures unrefused { Unrefused result }
 {
     let text = Bytes::from_slice(alloc, etag)?;
     end_upload_part_plan(

@@ -8,6 +8,7 @@ ghost use Rattle.upload_texts.specs.Sealed.{has_sealed_text};
 ghost use Rattle.upload_records.specs.Native.{seal_of, sealed_sub_manifests};
 ghost use Rattle.account_calls.specs.Calls.{always, GivenOf, Met};
 ghost use Rattle.account_calls.specs.Lent.{Stays};
+ghost use Rattle.account_calls.specs.Refusals.{Unrefused};
 ghost use Rattle.account_calls.specs.Plan.{Plans};
 ghost use Rattle.account_calls.specs.Puts.{Ensures, EnsuresIfDone};
 ghost use Rattle.plan_uploads.specs.Completing.{CompletesBy, EndsQuietly, LeavesUnsureOnly, MaySeal, Seals, StandsAs, end_complete_upload_sealed, most_sealed_text, put_sealed_text};
@@ -90,6 +91,7 @@ pub(crate) fn seal_and_finish<W: Swift>(
     ensures last { Met (GivenOf (MaySeal sealed.now)) (W.history state.old.store.now)
         → IfOk result.end (λ reply. EndsQuietly (W.history state.new.store.now)
         (W.history state.old.store.now).called (W.history state.new.store.now).called) }
+    ensures unrefused { Unrefused result.end }
 {
     match seal(alloc, state, sealed) {
         Ok(()) => end_complete_upload_sealed(roll_forward_held(alloc, state, sealed), reply),

@@ -12,6 +12,7 @@ ghost use Rattle.account_calls.specs.Answers.{named_by, pages, records_of};
 ghost use Rattle.account_calls.specs.Calls.{by_account, Any, Given, GivenOf, TellsBucket};
 ghost use Rattle.account_calls.specs.Lent.{Stays};
 ghost use Rattle.account_calls.specs.declared.state.Known.TheVariants as known;
+ghost use Rattle.account_calls.specs.Refusals.{alone, Stops, Unrefused};
 ghost use Rattle.account_calls.specs.Plan.{Plans};
 ghost use Rattle.upload_calls.specs.Found.{IsOpenUpload};
 ghost use Rattle.plan_uploads.specs.Plans.{parts_told, uploads_told};
@@ -44,6 +45,7 @@ pub(crate) fn plan_list_parts<W: Swift>(
         (2 + pages (named_by (present (W.history state.old.store.now)) bucket text.now)))
         (W.history state.old.store.now) (W.history state.new.store.now) state.old.settings.now
         (Given Any) (ListParts bucket key text.now marker max) label known.Settled result }
+    ensures stops { Stops alone 0 (W.history state.old.store.now) (W.history state.new.store.now) result }
 {
     match find_upload(alloc, state, &bucket, &key, text)? {
         Found::NoBucket => Ok(Reply::Refused(Code::NoSuchBucket)),
@@ -71,6 +73,7 @@ fn plan_list_parts_within<W: Swift>(
         (W.history state.old.store.now) (W.history state.new.store.now) state.old.settings.now
         (GivenOf (IsOpenUpload bucket key text id)) (ListParts bucket key text marker max) label
         known.Settled result }
+    ensures unrefused { Unrefused result }
 {
     let listed = list_parts(alloc, state, &bucket, id, marker, max)?;
     Ok(end_list_parts_plan(bucket, key, id, marker, max, listed))
@@ -120,6 +123,7 @@ pub(crate) fn plan_list_uploads<W: Swift>(
         (present (W.history state.old.store.now)) bucket)) (W.history state.old.store.now)
         (W.history state.new.store.now) state.old.settings.now (Given Any)
         (ListUploads bucket prefix key_marker id_marker max) label known.Settled result }
+    ensures stops { Stops alone 0 (W.history state.old.store.now) (W.history state.new.store.now) result }
 {
     let Some(_) = head_bucket(state, &bucket)? else {
         return Ok(Reply::Refused(Code::NoSuchBucket));
@@ -147,6 +151,7 @@ fn plan_list_uploads_within<W: Swift>(
         (W.history state.new.store.now) state.old.settings.now
         (Given (λ s. TellsBucket bucket s (Some acl)))
         (ListUploads bucket prefix key_marker id_marker max) label known.Settled result }
+    ensures unrefused { Unrefused result }
 {
     let listed = list_uploads(alloc, state, &bucket, &prefix, &key_marker, &id_marker, max)?;
     Ok(end_list_uploads_plan(bucket, prefix, key_marker, id_marker, max, listed))

@@ -45,3 +45,13 @@ abbrev pub IsFoundBy : List ℕ → Found → Type 0
 IsFoundBy text found.NoBucket = Unit {0}
 IsFoundBy text found.NoUpload = Unit {0}
 IsFoundBy text (found.Open id) = text ≡ id_digits id
+
+-- the bucket is missing
+abbrev pub is_bucket_missing : Found → Bool
+is_bucket_missing found.NoBucket = true
+is_bucket_missing found.NoUpload = false
+is_bucket_missing (found.Open id) = false
+
+-- where it is, the first call told so, and none follows
+abbrev pub StopsAtBucket : History → History → Result Found PlanFault → Type 0
+StopsAtBucket old new result = IfOk result (λ found. is_bucket_missing found ≡ true → new.called ≤ old.called + 1)

@@ -1,12 +1,12 @@
 //! The upload that an operation is on.
-ghost use Rattle.std.specs.Prelude.{◌≡◌, true, IfOk};
+ghost use Rattle.std.specs.Prelude.{◌≡◌, false, true, IfOk};
 ghost use Rattle.s3_names.specs.Bucket.{is_bucket};
 ghost use Rattle.s3_names.specs.Id.{id_digits};
 ghost use Rattle.upload_records.specs.Native.{IsSettled};
 ghost use Rattle.account_calls.specs.Calls.{always, Asks, GivenOf};
 ghost use Rattle.account_calls.specs.Lent.{Stays};
 ghost use Rattle.account_calls.specs.Listing.{TellsOf};
-ghost use Rattle.upload_calls.specs.Found.{IsFoundBy, TellsUpload, found_by};
+ghost use Rattle.upload_calls.specs.Found.{IsFoundBy, TellsUpload, found_by, StopsAtBucket, is_bucket_missing};
 ghost use Rattle.upload_calls.specs.Records.{InBucket};
 
 use crate::ids::read_upload_id_to_find;
@@ -42,6 +42,7 @@ pub fn find_upload<W: Swift>(
     ensures asks { Asks (always 2) (W.history state.old.store.now) (W.history state.new.store.now)
         IsSettled (TellsOf (TellsUpload bucket.now key.now text.now)) result }
     ensures by_text { IfOk result (IsFoundBy text.now) }
+    ensures missing { StopsAtBucket (W.history state.old.store.now) (W.history state.new.store.now) result }
 {
     let Some(_) = head_bucket(state, bucket)? else {
         return Ok(Found::NoBucket);
@@ -65,6 +66,7 @@ fn find_upload_by_id<W: Swift>(
     ensures asks { Asks (always 1) (W.history state.old.store.now) (W.history state.new.store.now)
         (GivenOf (InBucket bucket.now)) (TellsOf (TellsUpload bucket.now key.now (id_digits id))) result }
     ensures by_text { IfOk result (IsFoundBy (id_digits id)) }
+    ensures there { IfOk result (λ found. is_bucket_missing found ≡ false) }
 {
     let record = get_record(alloc, state, bucket, id)?;
     Ok(found_in(&record, key, id))

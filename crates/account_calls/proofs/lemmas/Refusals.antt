@@ -1,5 +1,5 @@
 -- A plan stops at the call that shows why it is refused.
-use Rattle.std.specs.Prelude.{◌≡◌, ◌≤◌, ℕ, ◌+◌, false, Option, None, Some, IfSome, Result, Ok, Err}
+use Rattle.std.specs.Prelude.{◌≡◌, ◌≤◌, ℕ, ◌+◌, false, Option, None, Some, IfSome, IfOk, Result, Ok, Err}
 use Rattle.std.specs.Result.{IsErrAnd}
 use Rattle.std.proofs.Common.{refl, sym, subst, arith}
 use Rattle.s3_machine.specs.declared.code.Code.{Code}
@@ -21,34 +21,40 @@ if_some : (shown : Option ℕ) {P Q : ℕ → Type 0} → ((n : ℕ) → P n →
 if_some None gives has = tt
 if_some (Some n) gives has = gives n has
 
+-- a reply that refuses nothing has no reason
+pub no_refusal : (s : Shows) (reply : Reply) → is_refusal reply ≡ false → shown_by s reply ≡ None
+no_refusal s (replies.Refused code) is = cc
+no_refusal s replies.Memory is = refl
+no_refusal s replies.Done is = refl
+no_refusal s replies.Gone is = refl
+no_refusal s (replies.NotModified head) is = cc
+no_refusal s (replies.Buckets items) is = refl
+no_refusal s (replies.Made bucket) is = refl
+no_refusal s (replies.Location region) is = refl
+no_refusal s (replies.AclOf acl) is = refl
+no_refusal s (replies.Objects bucket asked items truncated) is = refl
+no_refusal s (replies.Uploads bucket prefix key_marker id_marker max items truncated) is = refl
+no_refusal s (replies.Stored etag) is = refl
+no_refusal s (replies.Object head from length partial body) is = refl
+no_refusal s (replies.Started bucket key id) is = refl
+no_refusal s (replies.Parts bucket key id marker max items truncated) is = refl
+no_refusal s (replies.Completed bucket key etag) is = refl
+no_refusal s (replies.Deleted keys quiet) is = refl
+no_refusal s (replies.Copied part etag modified) is = refl
+
 module _ {s : Shows} {before : ℕ} {a b : History} where
   -- a fault is no refusal
   pub stops_not : (end : Result Reply PlanFault) {fault : PlanFault} → IsErrAnd end (λ e. e ≡ fault) → Stops s before a b end
   stops_not end {fault = fault} is = subst (Stops s before a b) (sym (err_is end fault is)) (record { so = tt })
 
-  no_refusal : (s : Shows) (reply : Reply) → is_refusal reply ≡ false → shown_by s reply ≡ None
-  no_refusal s (replies.Refused code) is = cc
-  no_refusal s replies.Memory is = refl
-  no_refusal s replies.Done is = refl
-  no_refusal s replies.Gone is = refl
-  no_refusal s (replies.NotModified head) is = cc
-  no_refusal s (replies.Buckets items) is = refl
-  no_refusal s (replies.Made bucket) is = refl
-  no_refusal s (replies.Location region) is = refl
-  no_refusal s (replies.AclOf acl) is = refl
-  no_refusal s (replies.Objects bucket asked items truncated) is = refl
-  no_refusal s (replies.Uploads bucket prefix key_marker id_marker max items truncated) is = refl
-  no_refusal s (replies.Stored etag) is = refl
-  no_refusal s (replies.Object head from length partial body) is = refl
-  no_refusal s (replies.Started bucket key id) is = refl
-  no_refusal s (replies.Parts bucket key id marker max items truncated) is = refl
-  no_refusal s (replies.Completed bucket key etag) is = refl
-  no_refusal s (replies.Deleted keys quiet) is = refl
-  no_refusal s (replies.Copied part etag modified) is = refl
+  -- of one for a reason of which nothing is told nothing is asked
+  pub stops_unshown : (end : Result Reply PlanFault) → IfOk end (λ reply. shown_by s reply ≡ None) → Stops s before a b end
+  stops_unshown (Ok reply) unshown = record { so = subst (λ o. IfSome o (λ n. before + b.called ≤ a.called + n)) (sym unshown) tt }
+  stops_unshown (Err fault) unshown = record { so = tt }
 
-  -- nor is anything else behind what may be refused
+  -- nor of a plan that isn't refused any more
   pub stops_unrefused : (end : Result Reply PlanFault) → Unrefused end → Stops s before a b end
-  stops_unrefused (Ok reply) done = record { so = subst (λ o. IfSome o (λ n. before + b.called ≤ a.called + n)) (sym (no_refusal s reply done)) tt }
+  stops_unrefused (Ok reply) done = stops_unshown (Ok reply) (no_refusal s reply done)
   stops_unrefused (Err fault) done = record { so = tt }
 
 -- the end of a plan whose reply was made before its last call

@@ -1,5 +1,5 @@
 -- What is found of an upload, over consistent accounts on which no completion is sealed; and the steps by it.
-use Rattle.std.specs.Prelude.{◌≡◌, ℕ, Bool, true, false, bytes_eq, cond, is_some, List, Option, Some, None}
+use Rattle.std.specs.Prelude.{◌≡◌, ℕ, Bool, true, false, bytes_eq, cond, is_some, List, Option, Some, None, Result, Ok, Err, IfOk}
 use Rattle.std.specs.Option.{option_and_then, option_map}
 use Rattle.std.specs.FinMap.{get}
 use Rattle.std.proofs.Common.{refl, sym, ap, subst, ◌∙◌, true≢false}
@@ -26,9 +26,10 @@ use Rattle.upload_records.proofs.lemmas.Settled.{s3_state_unsealed, unsealed_of}
 use Rattle.account_calls.specs.Answers.{named_by}
 use Rattle.account_calls.specs.Listing.{TellsOf}
 use Rattle.account_calls.specs.Calls.{Given, GivenOf, Met, TellsBucket, acl_of_bucket}
+use Rattle.account_calls.specs.declared.fault.PlanFault.{PlanFault}
 use Rattle.upload_calls.specs.declared.found.Found.{Found}
 use Rattle.upload_calls.specs.declared.found.Found.TheVariants as found
-use Rattle.upload_calls.specs.Found.{IsFoundBy, IsOpenUpload, LacksUpload, TellsUpload, found_by}
+use Rattle.upload_calls.specs.Found.{IsFoundBy, IsOpenUpload, LacksUpload, StopsAtBucket, TellsUpload, found_by, is_bucket_missing}
 use Rattle.upload_calls.specs.Records.{InBucket, ReadsId}
 
 -- ---- the bucket
@@ -194,3 +195,16 @@ pub found_by_text : (kept : Option Record) (key : List ℕ) (id : ℕ) → IsFou
 found_by_text None key id = tt
 found_by_text (Some (Open under content_type meta started)) key id = id_by (bytes_eq under key) id
 found_by_text (Some (Done under list etag started moment)) key id = tt
+
+-- ---- where the bucket is there
+
+-- a record is of a bucket that is there
+pub found_in_bucket : (r : Option Record) (key : List ℕ) (id : ℕ) → is_bucket_missing (found_by r key id) ≡ false
+found_in_bucket None key id = refl
+found_in_bucket (Some (Done under list etag started moment)) key id = refl
+found_in_bucket (Some (Open under content_type meta started)) key id =
+    elim (bytes_eq under key) as (λ t. is_bucket_missing (cond t (found.Open id) found.NoUpload) ≡ false) [ true ↦ refl | false ↦ refl ]
+
+pub stops_in_bucket : {a b : History} (result : Result Found PlanFault) → IfOk result (λ found. is_bucket_missing found ≡ false) → StopsAtBucket a b result
+stops_in_bucket (Ok it) there = λ is. absurd (true≢false (sym is ∙ there))
+stops_in_bucket (Err fault) there = tt

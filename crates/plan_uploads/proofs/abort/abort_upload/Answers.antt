@@ -7,6 +7,8 @@ use Rattle.upload_calls.proofs.lemmas.Asking.{after_told_of, asked_in_vain, aske
 use Rattle.upload_calls.proofs.lemmas.Finding.{named_same}
 use Rattle.plan_uploads.proofs.Behind.{clears_fault, clears_on, clears_other}
 use Rattle.plan_uploads.proofs.Steps.{abort_lost, abort_missing}
+use Rattle.account_calls.proofs.lemmas.Refusals.{stops_unrefused}
+use Rattle.upload_calls.specs.Found.{is_bucket_missing}
 use Rattle.plan_uploads.proofs.abort.abort_upload.Goals as goal
 
 pub returns-in_err-find_upload-clause-plans : goal.returns-in_err-find_upload-clause-plans
@@ -41,3 +43,9 @@ pub returns-in-Open-clause-beside : goal.returns-in-Open-clause-beside
 returns-in-Open-clause-beside g c = λ label.
     clears_on met_settled c.in_ok-find_upload.ensures.asks (λ any tells. after_told_of (Open c.in-Open.id) c.in-Open.is tells)
     (c.abort_open.ensures.plans c.args.key.now c.args.text.now label).grows.on (c.abort_open.ensures.beside c.args.key.now c.args.text.now label)
+
+pub returns-in-NoBucket-clause-stops : goal.returns-in-NoBucket-clause-stops
+returns-in-NoBucket-clause-stops g c = record { so = let near = c.in_ok-find_upload.ensures.missing (ap is_bucket_missing c.in-NoBucket.is) in omega (arith, near) }
+
+pub returns-in-Open-clause-stops : goal.returns-in-Open-clause-stops
+returns-in-Open-clause-stops g c = stops_unrefused _ c.abort_open.ensures.unrefused

@@ -5,6 +5,8 @@ use Rattle.account_calls.specs.Plan.{Plans}
 use Rattle.account_calls.proofs.lemmas.SideNames.{prefix_is_marker, segments_fits}
 use Rattle.plan_uploads.specs.Plans.{LeavesBeside}
 use Rattle.plan_uploads.proofs.Behind.{clears_behind, clears_fault, drop_fails, gone_then, purged_at}
+use Rattle.plan_uploads.proofs.Stopping.{gone_unrefused}
+use Rattle.account_calls.specs.Refusals.{Unrefused}
 use Rattle.plan_uploads.proofs.abort.plan_abort_and_purge_upload.Goals as goal
 
 pub returns-in_err-drop_record-clause-plans : goal.returns-in_err-drop_record-clause-plans
@@ -28,3 +30,6 @@ pub returns-clause-beside : goal.returns-clause-beside
 returns-clause-beside g c = λ key text label.
     subst (LeavesBeside _ _ _ _ _) (sym c.end_abort_upload_plan.ensures)
     (clears_behind c.requires.name c.in_ok-drop_record.ensures.drops (purged_at c.requires.folder c.requires.prefix c.purge.ensures.asks) key text label)
+
+pub returns-clause-unrefused : goal.returns-clause-unrefused
+returns-clause-unrefused g c = subst Unrefused (sym c.end_abort_upload_plan.ensures) (gone_unrefused _)

@@ -1,9 +1,10 @@
-use Rattle.std.proofs.Common.{ap, arith, rules, None, Some}
+use Rattle.std.proofs.Common.{ap, arith, rules, None, Some, sym, subst, refl}
 use Rattle.s3_machine.specs.declared.code.Code.TheVariants.{InvalidPart}
 use Rattle.plan_uploads.proofs.CompletionCalls.{lacks_memory, refused_at_once}
 use Rattle.plan_uploads.proofs.Completions.{invalid_part, listed_as}
 use Rattle.plan_uploads.specs.declared.complete.Completing.{Completing}
 use Rattle.plan_uploads.proofs.CompletionEnds.{refused_ensures}
+use Rattle.plan_uploads.specs.Completing.{ShownByParts}
 use Rattle.plan_uploads.proofs.complete.complete_by.Goals as goal
 
 pub returns-in_err-chosen-clause-plans : goal.returns-in_err-chosen-clause-plans
@@ -22,3 +23,6 @@ returns-clause-plans g c = λ text.
 
 pub returns-in_default-clause-stands : goal.returns-in_default-clause-stands
 returns-in_default-clause-stands g c = refused_ensures InvalidPart _ (ap (λ (x : Completing). x.end) c.end_complete_upload_refused.ensures)
+
+pub returns-in_default-clause-shown : goal.returns-in_default-clause-shown
+returns-in_default-clause-shown g c = subst (λ (x : Completing). ShownByParts x.end) (sym c.end_complete_upload_refused.ensures) refl

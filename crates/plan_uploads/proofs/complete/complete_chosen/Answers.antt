@@ -1,13 +1,14 @@
-use Rattle.std.proofs.Common.{ap, subst, arith, rules, true, false, length, ◌<◌, ◌^◌, ◌+◌, ◌∙◌}
+use Rattle.std.proofs.Common.{ap, subst, arith, rules, true, false, length, ◌<◌, ◌^◌, ◌+◌, ◌∙◌, sym, refl}
 use Rattle.upload_texts.specs.declared.sealed.Sealed.{Sealed}
 use Rattle.upload_records.specs.Native.{sealed_sub_manifests}
 use Rattle.s3_machine.specs.declared.code.Code.TheVariants.{EntityTooSmall}
 use Rattle.plan_uploads.proofs.CompletionCalls.{goes_on_sound, lacks_memory, refused_at_once, seals_same}
 use Rattle.plan_uploads.proofs.Completions.{few_subs, may_complete, small_as, too_small}
 use Rattle.account_calls.proofs.lemmas.Puts.{ensures_less}
-use Rattle.plan_uploads.specs.Completing.{StandsAs, known_in}
+use Rattle.plan_uploads.specs.Completing.{StandsAs, known_in, ShownByParts}
 use Rattle.plan_uploads.specs.declared.complete.Completing.{Completing}
 use Rattle.plan_uploads.proofs.CompletionEnds.{refused_ensures}
+use Rattle.plan_uploads.proofs.Stopping.{shown_by_none}
 use Rattle.plan_uploads.proofs.complete.complete_chosen.Goals as goal
 
 pub returns-then-has_small_chosen_part-clause-plans : goal.returns-then-has_small_chosen_part-clause-plans
@@ -37,3 +38,9 @@ pub returns-clause-stands : goal.returns-clause-stands
 returns-clause-stands g c =
     ensures_less (λ tree stands. record { opened = c.args.opened; chosen = c.args.chosen; stands = subst (λ s. StandsAs (known_in c.complete_sealed-completing.result) s tree) c.in_ok-sealed.ensures.sealed stands }) _
     c.complete_sealed-completing.ensures.stands
+
+pub returns-then-has_small_chosen_part-clause-shown : goal.returns-then-has_small_chosen_part-clause-shown
+returns-then-has_small_chosen_part-clause-shown g c = subst (λ (x : Completing). ShownByParts x.end) (sym c.end_complete_upload_refused.ensures) refl
+
+pub returns-clause-shown : goal.returns-clause-shown
+returns-clause-shown g c = shown_by_none _ c.complete_sealed-completing.ensures.unrefused

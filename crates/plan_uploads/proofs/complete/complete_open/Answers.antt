@@ -1,4 +1,4 @@
-use Rattle.std.proofs.Common.{◌≡◌, sym, ap, ◌∙◌, false, arith, rules}
+use Rattle.std.proofs.Common.{◌≡◌, sym, ap, ◌∙◌, false, arith, rules, subst}
 use Rattle.s3_names.specs.Id.{id_digits}
 use Rattle.s3_machine.specs.declared.code.Code.TheVariants.{InvalidPartOrder}
 use Rattle.s3_machine.specs.Uploads.{rises}
@@ -11,6 +11,8 @@ use Rattle.plan_uploads.proofs.CompletionSteps.{order_refused}
 use Rattle.plan_uploads.proofs.Completions.{has_parts, opened_parts}
 use Rattle.plan_uploads.specs.declared.complete.Completing.{Completing}
 use Rattle.plan_uploads.proofs.CompletionEnds.{refused_ensures}
+use Rattle.account_calls.proofs.lemmas.Refusals.{stops_unshown}
+use Rattle.account_calls.specs.Refusals.{alone, Stops}
 use Rattle.plan_uploads.proofs.complete.complete_open.Goals as goal
 
 pub returns-then-not-rises-clause-plans : goal.returns-then-not-rises-clause-plans
@@ -34,3 +36,9 @@ returns-clause-plans g c = λ text.
 
 pub returns-then-not-rises-clause-stands : goal.returns-then-not-rises-clause-stands
 returns-then-not-rises-clause-stands g c = refused_ensures InvalidPartOrder _ (ap (λ (x : Completing). x.end) c.end_complete_upload_refused.ensures)
+
+pub returns-then-not-rises-clause-stops : goal.returns-then-not-rises-clause-stops
+returns-then-not-rises-clause-stops g c = subst (λ (x : Completing). Stops alone 2 _ _ x.end) (sym c.end_complete_upload_refused.ensures) (record { so = omega arith })
+
+pub returns-clause-stops : goal.returns-clause-stops
+returns-clause-stops g c = stops_unshown _ c.complete_by.ensures.shown

@@ -1,48 +1,56 @@
-use Rattle.std.proofs.Common.{refl, ap, subst, inl, inr, arith, rules}
-use Rattle.account_calls.specs.Answers.{pages}
+use Rattle.std.proofs.Common.{refl, ap, subst, inl, inr, arith, rules, sym}
+use Rattle.account_calls.specs.Answers.{pages, named_by}
 use Rattle.account_calls.specs.Calls.{always}
 use Rattle.account_calls.proofs.lemmas.Ends.{met_settled, goes_on_from}
 use Rattle.upload_calls.proofs.lemmas.Asking.{after_told_of, asked_in_vain, asked_reply}
-use Rattle.plan_uploads.specs.Completing.{IsCompleted, LacksCompletion}
+use Rattle.plan_uploads.specs.Completing.{IsCompleted, LacksCompletion, lacks_bucket}
 use Rattle.plan_uploads.specs.declared.completed.ToComplete.TheVariants.{NoBucket, NoUpload, Again, Open}
 use Rattle.account_calls.proofs.lemmas.Puts.{ensures_less}
 use Rattle.s3_machine.specs.declared.code.Code.TheVariants.{NoSuchBucket, NoSuchUpload}
 use Rattle.plan_uploads.specs.declared.complete.Completing.{Completing}
 use Rattle.plan_uploads.proofs.CompletionEnds.{again_ensures, asked_out_of_memory, ends_answered, ends_with_fault, refused_ensures}
-use Rattle.plan_uploads.proofs.FoundCompletion.{complete_lost, complete_missing, completed_again, named_alike}
+use Rattle.plan_uploads.proofs.FoundCompletion.{complete_lost, complete_missing, completed_again, named_alike, two_calls, unkept_calls}
+use Rattle.account_calls.proofs.lemmas.Refusals.{stops_behind}
+use Rattle.account_calls.specs.Refusals.{alone, Stops}
+use Rattle.std.specs.Prelude.{◌+◌, length}
+use Rattle.swift_calls.specs.History.{present}
+use Rattle.upload_records.specs.Native.{s3_state, sub_manifests}
 use Rattle.plan_uploads.proofs.complete.complete_upload.Goals as goal
 
 pub returns-in_err-find_upload_to_complete-clause-plans : goal.returns-in_err-find_upload_to_complete-clause-plans
 returns-in_err-find_upload_to_complete-clause-plans g c =
-    ends_with_fault _ c.from_residual.ensures.1 (asked_in_vain (always 2) (omega arith) met_settled c.in_err-find_upload_to_complete.ensures.asks _ refl)
+    ends_with_fault _ c.from_residual.ensures.1 (asked_in_vain (always 2) (two_calls (6 + pages (named_by (present (g.W.Swift.history c.args.state.now.store.now)) c.args.bucket.now c.args.text.now) + sub_manifests (length c.args.list.now)) (s3_state (present (g.W.Swift.history c.args.state.now.store.now))) c.args.bucket.now c.args.key.now c.args.text.now c.args.list.now (omega arith)) met_settled c.in_err-find_upload_to_complete.ensures.asks _ refl)
 
 pub returns-in_err-end_complete_upload_again-in-Again-clause-plans : goal.returns-in_err-end_complete_upload_again-in-Again-clause-plans
 returns-in_err-end_complete_upload_again-in-Again-clause-plans g c =
-    ends_with_fault _ c.from_residual-in_err-end_complete_upload_again-in-Again.ensures.1 (asked_out_of_memory (omega arith) met_settled c.in_ok-find_upload_to_complete.ensures.asks)
+    ends_with_fault _ c.from_residual-in_err-end_complete_upload_again-in-Again.ensures.1 (asked_out_of_memory (two_calls (6 + pages (named_by (present (g.W.Swift.history c.args.state.now.store.now)) c.args.bucket.now c.args.text.now) + sub_manifests (length c.args.list.now)) (s3_state (present (g.W.Swift.history c.args.state.now.store.now))) c.args.bucket.now c.args.key.now c.args.text.now c.args.list.now (omega arith)) met_settled c.in_ok-find_upload_to_complete.ensures.asks)
 
 pub returns-in-NoBucket-clause-plans : goal.returns-in-NoBucket-clause-plans
 returns-in-NoBucket-clause-plans g c =
     ends_answered _ _ c.end_complete_upload_refused.ensures
-    (asked_reply (always 2) (omega arith) (λ tree has. has.settled) NoBucket c.in-NoBucket.is _ c.in_ok-find_upload_to_complete.ensures.asks (search rules)
+    (asked_reply (always 2) (two_calls (6 + pages (named_by (present (g.W.Swift.history c.args.state.now.store.now)) c.args.bucket.now c.args.text.now) + sub_manifests (length c.args.list.now)) (s3_state (present (g.W.Swift.history c.args.state.now.store.now))) c.args.bucket.now c.args.key.now c.args.text.now c.args.list.now (omega arith)) (λ tree has. has.settled) NoBucket c.in-NoBucket.is _ c.in_ok-find_upload_to_complete.ensures.asks (search rules)
     (λ tree sound has missing. complete_missing _ _ _ _ _ _ _ missing))
 
 pub returns-in-NoUpload-clause-plans : goal.returns-in-NoUpload-clause-plans
 returns-in-NoUpload-clause-plans g c =
     ends_answered _ _ c.end_complete_upload_refused-in-NoUpload.ensures
-    (asked_reply (always 2) (omega arith) (λ tree has. has.settled) NoUpload c.in-NoUpload.is _ c.in_ok-find_upload_to_complete.ensures.asks (search rules)
+    (asked_reply (always 2) (two_calls (6 + pages (named_by (present (g.W.Swift.history c.args.state.now.store.now)) c.args.bucket.now c.args.text.now) + sub_manifests (length c.args.list.now)) (s3_state (present (g.W.Swift.history c.args.state.now.store.now))) c.args.bucket.now c.args.key.now c.args.text.now c.args.list.now (omega arith)) (λ tree has. has.settled) NoUpload c.in-NoUpload.is _ c.in_ok-find_upload_to_complete.ensures.asks (search rules)
     (λ tree sound has lacks. complete_lost _ _ _ _ _ _ tree c.requires.place.named (subst (λ l. LacksCompletion c.args.bucket.now c.args.key.now c.args.text.now l tree) c.as_slice.ensures lacks)))
 
 pub returns-in_ok-end_complete_upload_again-in-Again-clause-plans : goal.returns-in_ok-end_complete_upload_again-in-Again-clause-plans
 returns-in_ok-end_complete_upload_again-in-Again-clause-plans g c =
     ends_answered _ _ c.in_ok-end_complete_upload_again-in-Again.ensures
-    (asked_reply (always 2) (omega arith) (λ tree has. has.settled) (Again c.in-Again.etag) c.in-Again.is _ c.in_ok-find_upload_to_complete.ensures.asks (search rules)
+    (asked_reply (always 2) (two_calls (6 + pages (named_by (present (g.W.Swift.history c.args.state.now.store.now)) c.args.bucket.now c.args.text.now) + sub_manifests (length c.args.list.now)) (s3_state (present (g.W.Swift.history c.args.state.now.store.now))) c.args.bucket.now c.args.key.now c.args.text.now c.args.list.now (omega arith)) (λ tree has. has.settled) (Again c.in-Again.etag) c.in-Again.is _ c.in_ok-find_upload_to_complete.ensures.asks (search rules)
     (λ tree sound has completed. completed_again _ _ _ _ _ _ tree c.requires.place.named _ (subst (λ l. IsCompleted c.args.bucket.now c.args.key.now c.args.text.now l c.in-Again.etag tree) c.as_slice.ensures completed)))
 
 pub returns-in-Open-clause-plans : goal.returns-in-Open-clause-plans
 returns-in-Open-clause-plans g c =
     goes_on_from met_settled c.find_upload_to_complete.ensures.stays.settings c.in_ok-find_upload_to_complete.ensures.asks (c.complete_open.ensures.plans c.args.text.now)
     (λ any tells. after_told_of (Open c.in-Open.opened) c.in-Open.is tells)
-    (λ x. let same = named_alike c.in-Open.is x.1 in let paged = ap pages same in omega (arith, same, paged))
+    (λ x.
+    let same = named_alike c.in-Open.is x.1 in
+    let paged = ap pages same in
+    unkept_calls _ (6 + pages (named_by (present (g.W.Swift.history c.args.state.now.store.now)) c.args.bucket.now c.args.text.now) + sub_manifests (length c.args.list.now)) (present (g.W.Swift.history c.args.state.now.store.now)) c.args.bucket.now c.args.key.now c.args.text.now c.args.list.now c.requires.place.named c.in-Open.is x.1 (omega (arith, same, paged)))
 
 pub returns-in-NoBucket-clause-stands : goal.returns-in-NoBucket-clause-stands
 returns-in-NoBucket-clause-stands g c = refused_ensures NoSuchBucket _ (ap (λ (x : Completing). x.end) c.end_complete_upload_refused.ensures)
@@ -56,3 +64,15 @@ returns-in_ok-end_complete_upload_again-in-Again-clause-stands g c =
 
 pub returns-in-Open-clause-stands : goal.returns-in-Open-clause-stands
 returns-in-Open-clause-stands g c = ensures_less (λ tree stands. inr stands) _ c.complete_open.ensures.stands
+
+pub returns-in-NoBucket-clause-stops : goal.returns-in-NoBucket-clause-stops
+returns-in-NoBucket-clause-stops g c = subst (λ (x : Completing). Stops alone 0 _ _ x.end) (sym c.end_complete_upload_refused.ensures) (record { so = let near = c.in_ok-find_upload_to_complete.ensures.missing (ap lacks_bucket c.in-NoBucket.is) in omega (arith, near) })
+
+pub returns-in-NoUpload-clause-stops : goal.returns-in-NoUpload-clause-stops
+returns-in-NoUpload-clause-stops g c = subst (λ (x : Completing). Stops alone 0 _ _ x.end) (sym c.end_complete_upload_refused-in-NoUpload.ensures) (record { so = let near = c.in_ok-find_upload_to_complete.ensures.asks.grows.calls in omega (arith, near) })
+
+pub returns-in_ok-end_complete_upload_again-in-Again-clause-stops : goal.returns-in_ok-end_complete_upload_again-in-Again-clause-stops
+returns-in_ok-end_complete_upload_again-in-Again-clause-stops g c = subst (λ (x : Completing). Stops alone 0 _ _ x.end) (sym c.in_ok-end_complete_upload_again-in-Again.ensures) (record { so = tt })
+
+pub returns-in-Open-clause-stops : goal.returns-in-Open-clause-stops
+returns-in-Open-clause-stops g c = stops_behind c.in_ok-find_upload_to_complete.ensures.asks _ c.complete_open.ensures.stops

@@ -6,6 +6,7 @@ use Rattle.upload_calls.specs.Records.{InBucket, ReadsId}
 use Rattle.upload_calls.proofs.lemmas.Asking.{asks_as, asks_on}
 use Rattle.upload_calls.proofs.lemmas.Finding.{there_of}
 use Rattle.plan_uploads.proofs.FoundCompletion.{no_completion}
+use Rattle.plan_uploads.proofs.Stopping.{stops_in_bucket}
 use Rattle.plan_uploads.proofs.completed.find_upload_to_complete.Goals as goal
 
 pub returns-in_default-read_upload_id_to_find-clause-asks : goal.returns-in_default-read_upload_id_to_find-clause-asks
@@ -23,3 +24,6 @@ returns-clause-asks g c =
     asks_on {rest = GivenOf (InBucket c.args.bucket.now)} {m = 1} (lit≤ tt) c.in_ok-head_bucket.ensures.asks
     (λ tree settled told. record { settled = settled; is = there_of tree _ c.in-Some.field-0 c.requires settled (subst (TellsBucket _ (s3_state tree)) c.in-Some.is told) })
     (rw reads c.find_recorded.ensures.asks)
+
+pub returns-clause-missing : goal.returns-clause-missing
+returns-clause-missing g c = stops_in_bucket _ c.find_recorded.ensures.there

@@ -7,6 +7,7 @@ use Rattle.account_calls.proofs.lemmas.Ends.{told_nothing, answers, met_settled,
 use Rattle.upload_calls.proofs.lemmas.Opened.{lacks_of}
 use Rattle.plan_uploads.proofs.Beside.{opens_none, opens_on}
 use Rattle.plan_uploads.proofs.Steps.{create_missing}
+use Rattle.account_calls.proofs.lemmas.Refusals.{stops_behind}
 use Rattle.plan_uploads.proofs.create.create_upload.Goals as goal
 
 pub returns-in_err-list-clause-plans : goal.returns-in_err-list-clause-plans
@@ -33,3 +34,6 @@ returns-clause-beside g c =
     opens_on met_settled c.in_ok-list.ensures.asks (λ old new tells. tells.same)
     (after_told (λ tree. Any (s3_state tree)) (λ tree. TellsBucket c.args.bucket (s3_state tree) (Some c.in-Some.list)) (Some c.in-Some.list) c.in-Some.is (λ tree any told. told))
     c.plan_create_upload_within.ensures.plans.grows.on c.plan_create_upload_within.ensures.beside
+
+pub returns-clause-stops : goal.returns-clause-stops
+returns-clause-stops g c = stops_behind c.in_ok-list.ensures.asks _ c.plan_create_upload_within.ensures.stops

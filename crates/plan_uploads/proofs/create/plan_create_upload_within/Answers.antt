@@ -5,6 +5,7 @@ use Rattle.upload_calls.proofs.lemmas.Finding.{met_there}
 use Rattle.plan_uploads.proofs.Beside.{opens_none, opens_on, opens_still}
 use Rattle.plan_uploads.proofs.Creating.{asks_start, start_after}
 use Rattle.plan_uploads.proofs.Steps.{create_other}
+use Rattle.account_calls.proofs.lemmas.Refusals.{stops_unrefused}
 use Rattle.plan_uploads.proofs.create.plan_create_upload_within.Goals as goal
 
 pub returns-then-is_other_acl-clause-plans : goal.returns-then-is_other_acl-clause-plans
@@ -26,3 +27,6 @@ returns-clause-plans g c =
 pub returns-clause-beside : goal.returns-clause-beside
 returns-clause-beside g c =
     opens_on (λ met. met) (asks_start _ c.args.list _ c.requires.place.named c.in_ok-id.ensures.asks) (λ old new tells. tells.same) (λ told tells. start_after tells) c.start.ensures.plans.grows.on c.start.ensures.beside
+
+pub returns-clause-stops : goal.returns-clause-stops
+returns-clause-stops g c = stops_unrefused _ c.start.ensures.unrefused

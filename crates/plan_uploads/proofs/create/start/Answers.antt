@@ -1,4 +1,4 @@
-use Rattle.std.proofs.Common.{sym, subst, lit≤, rules}
+use Rattle.std.proofs.Common.{sym, subst, lit≤, rules, refl}
 use Rattle.account_calls.specs.Plan.{Plans}
 use Rattle.account_calls.proofs.lemmas.Ends.{out_of_memory, commits, becomes}
 use Rattle.account_calls.specs.Puts.{EnsuresIfDone}
@@ -6,6 +6,8 @@ use Rattle.account_calls.proofs.lemmas.Puts.{ensures_ended, ensures_less}
 use Rattle.plan_uploads.proofs.Beside.{beside_none}
 use Rattle.plan_uploads.proofs.Creating.{may_open, new_id, opens_first}
 use Rattle.plan_uploads.proofs.Steps.{created, it}
+use Rattle.account_calls.proofs.lemmas.Refusals.{unrefused_ended}
+use Rattle.account_calls.specs.Refusals.{Unrefused}
 use Rattle.plan_uploads.proofs.create.start.Goals as goal
 
 pub returns-in_err-name-clause-plans : goal.returns-in_err-name-clause-plans
@@ -27,3 +29,6 @@ pub returns-clause-stands : goal.returns-clause-stands
 returns-clause-stands g c =
     subst (EnsuresIfDone _ _) (sym c.end_create_upload_plan.ensures)
     (ensures_less (λ tree stands. record { id = c.args.id; record_stands = stands }) _ (ensures_ended _ _ (rw c.in_ok-name.ensures at c.put_record.ensures.stands)))
+
+pub returns-clause-unrefused : goal.returns-clause-unrefused
+returns-clause-unrefused g c = subst Unrefused (sym c.end_create_upload_plan.ensures) (unrefused_ended _ (λ told. refl) _)

@@ -6,10 +6,10 @@ use Rattle.plan_uploads.proofs.operation.answer_upload_operation.Goals as goal
 
 pub returns-in-CompleteUpload-clause-answered : goal.returns-in-CompleteUpload-clause-answered
 returns-in-CompleteUpload-clause-answered g c = rw c.in-CompleteUpload.is
-    (answered_alike c.completed.ensures.known c.completed.ensures.reply (answered_as (λ met. tt) c.complete_upload.ensures.unsure c.complete_upload.ensures.plans))
+    (answered_alike c.completed.ensures.known c.completed.ensures.reply (answered_as (λ met. tt) c.complete_upload.ensures.unsure c.complete_upload.ensures.stops c.complete_upload.ensures.plans))
 
 pub returns-in_default-clause-answered : goal.returns-in_default-clause-answered
-returns-in_default-clause-answered g c = subst (Answered _ _ _ _ _ _ _) (sym c.reply_of.ensures) (answered_with c.plan.ensures.beside c.plan.ensures.plans)
+returns-in_default-clause-answered g c = subst (Answered _ _ _ _ _ _ _) (sym c.reply_of.ensures) (answered_with c.plan.ensures.beside c.plan.ensures.stops c.plan.ensures.plans)
 
 pub returns-in-CompleteUpload-clause-stands : goal.returns-in-CompleteUpload-clause-stands
 returns-in-CompleteUpload-clause-stands g c = rw (c.in-CompleteUpload.is, c.completed.ensures.known, c.completed.ensures.reply) (ensures_reply _ c.complete_upload.ensures.stands)

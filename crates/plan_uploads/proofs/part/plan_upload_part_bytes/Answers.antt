@@ -1,10 +1,12 @@
-use Rattle.std.proofs.Common.{sym, subst, ◌∙◌, lit≤, rules}
+use Rattle.std.proofs.Common.{sym, subst, ◌∙◌, lit≤, rules, refl}
 use Rattle.account_calls.specs.Plan.{Plans}
 use Rattle.account_calls.proofs.lemmas.Ends.{out_of_memory, commits, becomes}
 use Rattle.account_calls.proofs.lemmas.Puts.{ensures_ended}
 use Rattle.account_calls.specs.Puts.{EnsuresIfDone}
 use Rattle.upload_calls.proofs.lemmas.Opened.{has_open}
 use Rattle.plan_uploads.proofs.Steps.{part_stored}
+use Rattle.account_calls.proofs.lemmas.Refusals.{unrefused_ended}
+use Rattle.account_calls.specs.Refusals.{Unrefused}
 use Rattle.plan_uploads.proofs.part.plan_upload_part_bytes.Goals as goal
 
 pub returns-in_err-text-clause-plans : goal.returns-in_err-text-clause-plans
@@ -18,3 +20,6 @@ returns-clause-plans g c = λ key text.
 
 pub returns-clause-stands : goal.returns-clause-stands
 returns-clause-stands g c = subst (EnsuresIfDone _ _) (sym c.end_upload_part_plan.ensures) (ensures_ended _ _ c.put_part.ensures.stands)
+
+pub returns-clause-unrefused : goal.returns-clause-unrefused
+returns-clause-unrefused g c = subst Unrefused (sym c.end_upload_part_plan.ensures) (unrefused_ended _ (λ told. refl) _)

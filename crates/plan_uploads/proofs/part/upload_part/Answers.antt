@@ -1,12 +1,13 @@
 use Rattle.std.specs.Prelude.{Ok, IfOk}
-use Rattle.std.proofs.Common.{subst, lit≤, rules}
+use Rattle.std.proofs.Common.{subst, lit≤, rules, ap, arith}
 use Rattle.account_calls.specs.Calls.{always}
 use Rattle.account_calls.proofs.lemmas.Ends.{met_settled, goes_on_from}
 use Rattle.account_calls.proofs.lemmas.Puts.{ensures_less}
-use Rattle.upload_calls.specs.Found.{IsFoundBy}
+use Rattle.upload_calls.specs.Found.{IsFoundBy, is_bucket_missing}
 use Rattle.upload_calls.specs.declared.found.Found.TheVariants.{NoBucket, NoUpload, Open}
 use Rattle.upload_calls.proofs.lemmas.Asking.{after_told_of, asked_in_vain, asked_reply}
 use Rattle.plan_uploads.proofs.Steps.{part_lost, part_missing}
+use Rattle.account_calls.proofs.lemmas.Refusals.{stops_unrefused}
 use Rattle.plan_uploads.proofs.part.upload_part.Goals as goal
 
 pub returns-in_err-find_upload-clause-plans : goal.returns-in_err-find_upload-clause-plans
@@ -31,3 +32,9 @@ pub returns-in-Open-clause-stands : goal.returns-in-Open-clause-stands
 returns-in-Open-clause-stands g c =
     let is = subst (IsFoundBy c.args.text.now) c.in-Open.is c.in_ok-find_upload.ensures.by_text in
     ensures_less (λ tree stands. record { id = c.in-Open.id; is = is; stands = stands }) _ c.part_into.ensures.stands
+
+pub returns-in-NoBucket-clause-stops : goal.returns-in-NoBucket-clause-stops
+returns-in-NoBucket-clause-stops g c = record { so = let near = c.in_ok-find_upload.ensures.missing (ap is_bucket_missing c.in-NoBucket.is) in omega (arith, near) }
+
+pub returns-in-Open-clause-stops : goal.returns-in-Open-clause-stops
+returns-in-Open-clause-stops g c = stops_unrefused _ c.part_into.ensures.unrefused

@@ -1,4 +1,8 @@
 use Rattle.plan_uploads.proofs.Finishing.{ends_quietly, finished_then, seal_fails, stands_then}
+use Rattle.plan_uploads.proofs.Stopping.{sealed_unrefused}
+use Rattle.std.proofs.Common.{ap, sym, subst}
+use Rattle.account_calls.specs.Refusals.{Unrefused, is_refusal}
+use Rattle.plan_uploads.specs.declared.complete.Completing.{Completing}
 use Rattle.plan_uploads.proofs.seal.seal_and_finish.Goals as goal
 
 pub returns-in-Ok-clause-plans : goal.returns-in-Ok-clause-plans
@@ -15,3 +19,6 @@ returns-in-Ok-clause-stands g c =
 
 pub returns-in-Ok-clause-last : goal.returns-in-Ok-clause-last
 returns-in-Ok-clause-last g c = ends_quietly _ _ c.end_complete_upload_sealed.ensures c.in-Ok.ensures.seals c.roll_forward_held.ensures.asks
+
+pub returns-in-Ok-clause-unrefused : goal.returns-in-Ok-clause-unrefused
+returns-in-Ok-clause-unrefused g c = subst (λ (x : Completing). Unrefused x.end) (sym c.end_complete_upload_sealed.ensures) (sealed_unrefused _ _ (ap is_refusal c.requires.reply))

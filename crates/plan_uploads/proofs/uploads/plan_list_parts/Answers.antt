@@ -6,6 +6,8 @@ use Rattle.upload_calls.specs.declared.found.Found.TheVariants.{NoBucket, NoUplo
 use Rattle.upload_calls.proofs.lemmas.Asking.{after_told_of, asked_in_vain, asked_reply}
 use Rattle.upload_calls.proofs.lemmas.Finding.{named_same}
 use Rattle.plan_uploads.proofs.Steps.{parts_lost, parts_missing}
+use Rattle.account_calls.proofs.lemmas.Refusals.{stops_unrefused}
+use Rattle.upload_calls.specs.Found.{is_bucket_missing}
 use Rattle.plan_uploads.proofs.uploads.plan_list_parts.Goals as goal
 
 pub returns-in_err-find_upload-clause-plans : goal.returns-in_err-find_upload-clause-plans
@@ -26,3 +28,9 @@ returns-in-Open-clause-plans g c = λ label.
     goes_on_from met_settled c.find_upload.ensures.stays.settings c.in_ok-find_upload.ensures.asks (c.plan_list_parts_within.ensures.plans c.args.text.now label)
     (λ any tells. after_told_of (Open c.in-Open.id) c.in-Open.is tells)
     (λ x. let same = ap pages (named_same c.in-Open.is x.1) in omega (arith, same))
+
+pub returns-in-NoBucket-clause-stops : goal.returns-in-NoBucket-clause-stops
+returns-in-NoBucket-clause-stops g c = record { so = let near = c.in_ok-find_upload.ensures.missing (ap is_bucket_missing c.in-NoBucket.is) in omega (arith, near) }
+
+pub returns-in-Open-clause-stops : goal.returns-in-Open-clause-stops
+returns-in-Open-clause-stops g c = stops_unrefused _ c.plan_list_parts_within.ensures.unrefused

@@ -1,5 +1,5 @@
 use Rattle.std.specs.Prelude.{Ok}
-use Rattle.std.proofs.Common.{rules, ap}
+use Rattle.std.proofs.Common.{rules, ap, refl, sym, subst}
 use Rattle.s3_names.specs.Id.{id_digits}
 use Rattle.swift_calls.specs.History.{present}
 use Rattle.account_calls.specs.Answers.{named_by, pages}
@@ -11,6 +11,7 @@ use Rattle.upload_calls.proofs.lemmas.Asking.{asked_in_vain, asked_end}
 use Rattle.upload_calls.proofs.lemmas.Opened.{has_open}
 use Rattle.plan_uploads.specs.Plans.{parts_told}
 use Rattle.plan_uploads.proofs.Steps.{only_parts, parts_are_own, parts_listed}
+use Rattle.account_calls.specs.Refusals.{Unrefused}
 use Rattle.plan_uploads.proofs.uploads.plan_list_parts_within.Goals as goal
 
 pub returns-in_err-listed-clause-plans : goal.returns-in_err-listed-clause-plans
@@ -28,3 +29,6 @@ returns-clause-plans g c = λ text label.
       is = ap Ok c.end_list_parts_plan.ensures;
       step = parts_listed _ _ _ _ _ tree c.requires.name c.args.id has.is c.ranges.id.fits c.args.marker c.args.max c.in_ok-listed.listed told;
     })
+
+pub returns-clause-unrefused : goal.returns-clause-unrefused
+returns-clause-unrefused g c = subst (λ r. Unrefused (Ok r)) (sym c.end_list_parts_plan.ensures) refl

@@ -1,5 +1,5 @@
 use Rattle.std.specs.Prelude.{◌+◌, Ok}
-use Rattle.std.proofs.Common.{refl, rules, ap}
+use Rattle.std.proofs.Common.{refl, rules, ap, sym, subst}
 use Rattle.swift_calls.specs.History.{present}
 use Rattle.account_calls.specs.Answers.{pages, records_of}
 use Rattle.account_calls.specs.Calls.{by_account}
@@ -7,6 +7,7 @@ use Rattle.account_calls.proofs.lemmas.Ends.{as_wide, calls_in_vain, calls_end}
 use Rattle.upload_calls.proofs.lemmas.Finding.{met_there}
 use Rattle.plan_uploads.specs.Plans.{uploads_told}
 use Rattle.plan_uploads.proofs.Steps.{uploads_are_own, uploads_listed}
+use Rattle.account_calls.specs.Refusals.{Unrefused}
 use Rattle.plan_uploads.proofs.uploads.plan_list_uploads_within.Goals as goal
 
 pub returns-in_err-listed-clause-plans : goal.returns-in_err-listed-clause-plans
@@ -24,3 +25,6 @@ returns-clause-plans g c = λ acl label.
       ap Ok c.end_list_uploads_plan.ensures,
       uploads_listed _ _ _ _ acl there c.args.prefix c.args.key_marker c.args.id_marker c.args.max c.in_ok-listed.listed told,
     ))
+
+pub returns-clause-unrefused : goal.returns-clause-unrefused
+returns-clause-unrefused g c = subst (λ r. Unrefused (Ok r)) (sym c.end_list_uploads_plan.ensures) refl

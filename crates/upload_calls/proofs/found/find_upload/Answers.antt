@@ -4,7 +4,7 @@ use Rattle.upload_records.specs.Native.{s3_state}
 use Rattle.account_calls.specs.Calls.{GivenOf, TellsBucket}
 use Rattle.upload_calls.specs.Records.{InBucket, ReadsId}
 use Rattle.upload_calls.proofs.lemmas.Asking.{asks_as, asks_on}
-use Rattle.upload_calls.proofs.lemmas.Finding.{no_record, there_of}
+use Rattle.upload_calls.proofs.lemmas.Finding.{no_record, there_of, stops_in_bucket}
 use Rattle.upload_calls.proofs.found.find_upload.Goals as goal
 
 pub returns-in_default-read_upload_id_to_find-clause-asks : goal.returns-in_default-read_upload_id_to_find-clause-asks
@@ -27,3 +27,6 @@ pub returns-clause-by_text : goal.returns-clause-by_text
 returns-clause-by_text g c =
     let reads : ReadsId c.args.text.now (Some c.in-Some-read_upload_id_to_find.id) = subst (ReadsId c.args.text.now) c.in-Some-read_upload_id_to_find.is (subst (λ t. ReadsId t c.read_upload_id_to_find.result) c.as_slice.ensures c.read_upload_id_to_find.ensures) in
     rw reads c.find_upload_by_id.ensures.by_text
+
+pub returns-clause-missing : goal.returns-clause-missing
+returns-clause-missing g c = stops_in_bucket _ c.find_upload_by_id.ensures.there
