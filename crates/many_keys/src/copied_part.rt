@@ -14,6 +14,7 @@ ghost use Rattle.account_calls.specs.Interpret.{IsShownHead};
 ghost use Rattle.account_calls.specs.Lent.{Stays};
 ghost use Rattle.account_calls.specs.declared.state.Known.TheVariants as known;
 ghost use Rattle.account_calls.specs.Plan.{ended, Plans};
+ghost use Rattle.account_calls.specs.Refusals.{in_upload_with_source, Stops, Unrefused};
 ghost use Rattle.account_calls.specs.Puts.{EnsuresIfDone, StandsIn};
 ghost use Rattle.upload_calls.specs.Found.{IsOpenUpload};
 ghost use Rattle.upload_calls.specs.Interpret.{put_part_of};
@@ -57,6 +58,7 @@ pub(crate) fn plan_upload_part_copy<W: Swift>(
         known.Settled result }
     ensures stands { EnsuresIfDone (W.history state.new.store.now)
         (StandsPartCopy bucket.now text.now number label.now.moment) result }
+    ensures stops { Stops in_upload_with_source 0 (W.history state.old.store.now) (W.history state.new.store.now) result }
 {
     match find_upload(alloc, state, bucket, key, text)? {
         Found::NoBucket => Ok(Reply::Refused(Code::NoSuchBucket)),
@@ -100,6 +102,7 @@ fn plan_part_copy_into_upload<W: Swift>(
         result }
     ensures stands { EnsuresIfDone (W.history state.new.store.now)
         (StandsCopiedPart bucket.now id number label.now.moment) result }
+    ensures stops { Stops in_upload_with_source 2 (W.history state.old.store.now) (W.history state.new.store.now) result }
 {
     let Some(_) = head_bucket(state, &from_bucket)? else {
         return Ok(Reply::Refused(Code::NoSuchBucket));
@@ -142,6 +145,7 @@ fn plan_part_copy_from_bucket<W: Swift>(
         result }
     ensures stands { EnsuresIfDone (W.history state.new.store.now)
         (StandsCopiedPart bucket.now id number label.now.moment) result }
+    ensures stops { Stops in_upload_with_source 3 (W.history state.old.store.now) (W.history state.new.store.now) result }
 {
     let Some(head) = head_object(alloc, state, &from_bucket, &from_key)? else {
         return Ok(Reply::Refused(Code::NoSuchKey));
@@ -189,6 +193,7 @@ fn plan_part_copy_of_source<W: Swift>(
         result }
     ensures stands { EnsuresIfDone (W.history state.new.store.now)
         (StandsCopiedPart bucket.now id number label.now.moment) result }
+    ensures stops { Stops in_upload_with_source 4 (W.history state.old.store.now) (W.history state.new.store.now) result }
 {
     if !has_last(range, head.size) {
         return Ok(Reply::Refused(Code::InvalidRange));
@@ -247,6 +252,7 @@ fn plan_part_copy_of_bytes<W: Swift>(
         result }
     ensures stands { EnsuresIfDone (W.history state.new.store.now)
         (StandsCopiedPart bucket.now id number label.now.moment) result }
+    ensures unrefused { Unrefused result }
 {
     let etag = head.etag.as_slice();
     let told = get_object(alloc, state, from_bucket, from_key, etag, head.size, range)?;
@@ -282,6 +288,7 @@ fn plan_put_part_copy<W: Swift>(
         result }
     ensures stands { EnsuresIfDone (W.history state.new.store.now)
         (λ tree. StandsIn tree (put_part_of bucket.now id number bytes label.now.moment)) result }
+    ensures unrefused { Unrefused result }
 {
     let body = Body::new(bytes);
     let etag = body.etag();
@@ -322,6 +329,7 @@ fn plan_part_copy_with_etag<W: Swift>(
         result }
     ensures stands { EnsuresIfDone (W.history state.new.store.now)
         (λ tree. StandsIn tree (put_part_of bucket.now id number bytes label.now.moment)) result }
+    ensures unrefused { Unrefused result }
 {
     let text = Bytes::from_slice(alloc, etag)?;
     let moment = label.moment;

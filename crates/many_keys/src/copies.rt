@@ -11,6 +11,7 @@ ghost use Rattle.account_calls.specs.Answers.{copy_calls};
 ghost use Rattle.account_calls.specs.Calls.{always, by_account, Any, Given, TellsBucket};
 ghost use Rattle.account_calls.specs.Lent.{Stays};
 ghost use Rattle.account_calls.specs.Plan.{ended, Plans};
+ghost use Rattle.account_calls.specs.Refusals.{Stops, Unrefused, with_source};
 ghost use Rattle.account_calls.specs.Puts.{EnsuresIfDone};
 ghost use Rattle.account_calls.specs.declared.state.Known.TheVariants as known;
 ghost use Rattle.many_keys.specs.Copies.{IsFoundBucket, IsFoundSource, IsProperHead, IsReadSource, StandsCopy, is_body_to_copy};
@@ -50,6 +51,7 @@ pub(crate) fn copy_object<W: Swift>(
         known.Settled result }
     ensures stands { EnsuresIfDone (W.history state.new.store.now)
         (StandsCopy bucket key label.now.moment) result }
+    ensures stops { Stops with_source 0 (W.history state.old.store.now) (W.history state.new.store.now) result }
 {
     let Some(list) = head_bucket(state, &bucket)? else {
         return Ok(Reply::Refused(Code::NoSuchBucket));
@@ -93,6 +95,7 @@ fn copy_within<W: Swift>(
         (CopyObject bucket key acl from_bucket from_key replaced) label.now known.Settled result }
     ensures stands { EnsuresIfDone (W.history state.new.store.now)
         (StandsCopy bucket key label.now.moment) result }
+    ensures stops { Stops with_source 1 (W.history state.old.store.now) (W.history state.new.store.now) result }
 {
     if is_other_acl(acl, list) {
         return Ok(Reply::Refused(Code::NotImplemented));
@@ -140,6 +143,7 @@ fn copy_from<W: Swift>(
         (CopyObject bucket key acl from_bucket from_key replaced) label.now known.Settled result }
     ensures stands { EnsuresIfDone (W.history state.new.store.now)
         (StandsCopy bucket key label.now.moment) result }
+    ensures stops { Stops with_source 2 (W.history state.old.store.now) (W.history state.new.store.now) result }
 {
     let Some(head) = head_source(alloc, state, &from_bucket, &from_key)? else {
         return Ok(Reply::Refused(Code::NoSuchKey));
@@ -187,6 +191,7 @@ fn copy_found<W: Swift>(
         (CopyObject bucket key acl from_bucket from_key replaced) label.now known.Settled result }
     ensures stands { EnsuresIfDone (W.history state.new.store.now)
         (StandsCopy bucket key label.now.moment) result }
+    ensures stops { Stops with_source 3 (W.history state.old.store.now) (W.history state.new.store.now) result }
 {
     if is_onto_itself(&bucket, &key, &from_bucket, &from_key, &replaced) {
         return Ok(Reply::Refused(Code::InvalidRequest));
@@ -246,6 +251,7 @@ fn copy_plain_source<W: Swift>(
         (CopyObject bucket key acl from_bucket from_key replaced) label.now known.Settled result }
     ensures stands { EnsuresIfDone (W.history state.new.store.now)
         (StandsCopy bucket key label.now.moment) result }
+    ensures unrefused { Unrefused result }
 {
     let body = get_source_to_copy(alloc, state, from_bucket, from_key, &head)?;
     put_copy(alloc, state, bucket, key, replaced, head, body, label)
@@ -275,6 +281,7 @@ fn put_copy<W: Swift>(
         (CopyObject bucket key acl from_bucket from_key replaced) label.now known.Settled result }
     ensures stands { EnsuresIfDone (W.history state.new.store.now)
         (StandsCopy bucket key label.now.moment) result }
+    ensures unrefused { Unrefused result }
 {
     let etag = head.etag;
     let content = content_of(replaced, head.content_type, head.meta);

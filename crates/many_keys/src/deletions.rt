@@ -8,6 +8,7 @@ ghost use Rattle.s3_machine.specs.declared.operation.Op.TheVariants.{DeleteObjec
 ghost use Rattle.account_calls.specs.Calls.{always, Any, Becomes, Changes, Given, drops_object};
 ghost use Rattle.account_calls.specs.declared.state.Known.TheVariants as known;
 ghost use Rattle.account_calls.specs.Lent.{Stays};
+ghost use Rattle.account_calls.specs.Refusals.{alone, Stops};
 ghost use Rattle.account_calls.specs.Plan.{Plans};
 ghost use Rattle.many_keys.specs.Deletions.{Deletes};
 
@@ -32,6 +33,7 @@ pub(crate) fn delete_objects<W: Swift>(
         → Plans (always (1 + length keys)) (W.history state.old.store.now)
         (W.history state.new.store.now) state.old.settings.now (Given Any)
         (DeleteObjects bucket.now keys quiet) label known.Settled result }
+    ensures stops { Stops alone 0 (W.history state.old.store.now) (W.history state.new.store.now) result }
 {
     let Some(list) = head_bucket(state, bucket)? else {
         return Ok(Reply::Refused(Code::NoSuchBucket));

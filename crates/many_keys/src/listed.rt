@@ -16,6 +16,7 @@ ghost use Rattle.account_calls.specs.Answers.{listed_by, records_of, segments_of
 ghost use Rattle.account_calls.specs.Calls.{always, by_account, Changes, Given, GivenOf};
 ghost use Rattle.account_calls.specs.Lent.{Stays};
 ghost use Rattle.account_calls.specs.Plan.{Plans};
+ghost use Rattle.account_calls.specs.Refusals.{Unrefused};
 ghost use Rattle.account_calls.specs.Puts.{EnsuresIfDone, Stands, StandsIn};
 ghost use Rattle.account_calls.specs.Sealed.{put_object_of};
 ghost use Rattle.account_calls.specs.declared.state.Known.TheVariants as known;
@@ -73,6 +74,7 @@ pub(crate) fn copy_source_of_parts<W: Swift>(
         (CopyObject bucket key acl from_bucket from_key replaced) label.now known.Settled result }
     ensures stands { EnsuresIfDone (W.history state.new.store.now)
         (StandsCopy bucket key label.now.moment) result }
+    ensures unrefused { Unrefused result }
 {
     if head.size == 0 {
         return copy_empty_source(alloc, state, bucket, key, replaced, head, label);
@@ -118,6 +120,7 @@ fn copy_empty_source<W: Swift>(
         (CopyObject bucket key acl from_bucket from_key replaced) label.now known.Settled result }
     ensures stands { EnsuresIfDone (W.history state.new.store.now)
         (StandsCopy bucket key label.now.moment) result }
+    ensures unrefused { Unrefused result }
 {
     law_unused_is_abandoned();
     let id = free_id(alloc, state, &bucket, label.draw)?;
@@ -158,6 +161,7 @@ fn copy_source_by_pieces<W: Swift>(
         (CopyObject bucket key acl from_bucket from_key replaced) label.now known.Settled result }
     ensures stands { EnsuresIfDone (W.history state.new.store.now)
         (StandsCopy bucket key label.now.moment) result }
+    ensures unrefused { Unrefused result }
 {
     law_unused_is_abandoned();
     let id = free_id(alloc, state, &bucket, label.draw)?;
@@ -207,6 +211,7 @@ fn copy_under<W: Swift>(
         result }
     ensures stands { EnsuresIfDone (W.history state.new.store.now)
         (StandsCopy bucket key label.now.moment) result }
+    ensures unrefused { Unrefused result }
 {
     let parts = copy_source_segments(
         alloc,
@@ -275,6 +280,7 @@ fn put_listed_copy<W: Swift>(
         known.Settled result }
     ensures stands { EnsuresIfDone (W.history state.new.store.now)
         (λ tree. StandsIn tree (put_object_of sealed.now)) result }
+    ensures unrefused { Unrefused result }
 {
     let etag = sealed.etag.copy()?;
     end_copy_object_plan(put_copy_file(alloc, state, sealed), etag, sealed.moment)

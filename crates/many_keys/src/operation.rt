@@ -7,6 +7,7 @@ ghost use Rattle.account_calls.specs.declared.state.Known.TheVariants as known;
 ghost use Rattle.account_calls.specs.Calls.{Any, Given};
 ghost use Rattle.account_calls.specs.Lent.{Stays};
 ghost use Rattle.account_calls.specs.Plan.{Plans, Answered};
+ghost use Rattle.account_calls.specs.Refusals.{shows, Stops};
 ghost use Rattle.account_calls.specs.Puts.{EnsuresIfDone, IfDone};
 ghost use Rattle.many_keys.specs.CopiedPart.{CopyStands};
 
@@ -60,6 +61,7 @@ fn plan<W: Swift>(
         (W.history state.old.store.now) (W.history state.new.store.now) state.old.settings.now
         (Given Any) op.old label.now known.Settled result }
     ensures stands { EnsuresIfDone (W.history state.new.store.now) (CopyStands op.old label.now) result }
+    ensures stops { Stops (shows op.old) 0 (W.history state.old.store.now) (W.history state.new.store.now) result }
 {
     match op {
         Op::DeleteObjects {

@@ -2,6 +2,7 @@ use Rattle.std.proofs.Common.{sym, ◌∙◌, lit≤, arith, rules}
 use Rattle.account_calls.proofs.lemmas.Ends.{needs_none}
 use Rattle.many_keys.proofs.CopiedPart.{copy_is_empty, copy_past_end, copy_too_large, not_large, plans_within, same_length, too_large}
 use Rattle.account_calls.proofs.lemmas.Puts.{ensures_less}
+use Rattle.account_calls.proofs.lemmas.Refusals.{stops_unrefused}
 use Rattle.many_keys.proofs.copied_part.plan_part_copy_of_source.Goals as goal
 
 pub returns-then-not-has_last-clause-plans : goal.returns-then-not-has_last-clause-plans
@@ -25,3 +26,9 @@ returns-clause-plans g c = λ key text. c.plan_part_copy_of_bytes.ensures.plans 
 
 pub returns-then-wanted-eq0-clause-stands : goal.returns-then-wanted-eq0-clause-stands
 returns-then-wanted-eq0-clause-stands g c = ensures_less (λ tree stands. record { body = _; stands = stands }) _ c.plan_put_part_copy.ensures.stands
+
+pub returns-then-wanted-eq0-clause-stops : goal.returns-then-wanted-eq0-clause-stops
+returns-then-wanted-eq0-clause-stops g c = stops_unrefused _ c.plan_put_part_copy.ensures.unrefused
+
+pub returns-clause-stops : goal.returns-clause-stops
+returns-clause-stops g c = stops_unrefused _ c.plan_part_copy_of_bytes.ensures.unrefused

@@ -6,6 +6,7 @@ use Rattle.upload_calls.proofs.lemmas.Asking.{after_told_of, asked_in_vain, aske
 use Rattle.many_keys.proofs.CopiedPart.{copy_lost, copy_missing}
 use Rattle.account_calls.proofs.lemmas.Puts.{ensures_less}
 use Rattle.upload_calls.specs.Found.{IsFoundBy}
+use Rattle.account_calls.proofs.lemmas.Refusals.{stops_behind}
 use Rattle.many_keys.proofs.copied_part.plan_upload_part_copy.Goals as goal
 
 pub returns-in_err-find_upload-clause-plans : goal.returns-in_err-find_upload-clause-plans
@@ -30,3 +31,6 @@ pub returns-in-Open-clause-stands : goal.returns-in-Open-clause-stands
 returns-in-Open-clause-stands g c =
     let is = subst (IsFoundBy c.args.text.now) c.in-Open.is c.in_ok-find_upload.ensures.by_text in
     ensures_less (λ tree part. record { body = part.body; part = record { id = c.in-Open.id; is = is; stands = part.stands } }) _ c.plan_part_copy_into_upload.ensures.stands
+
+pub returns-in-Open-clause-stops : goal.returns-in-Open-clause-stops
+returns-in-Open-clause-stops g c = stops_behind c.in_ok-find_upload.ensures.asks _ c.plan_part_copy_into_upload.ensures.stops

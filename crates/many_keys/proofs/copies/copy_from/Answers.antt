@@ -4,6 +4,7 @@ use Rattle.upload_records.specs.Native.{s3_state}
 use Rattle.account_calls.proofs.lemmas.Ends.{told_nothing, answers, met_settled, after_told, goes_on_from}
 use Rattle.many_keys.specs.Copies.{IsFoundBucket, IsFoundSource}
 use Rattle.many_keys.proofs.CopySteps.{as_few, one_more, copy_source_missing}
+use Rattle.account_calls.proofs.lemmas.Refusals.{stops_behind}
 use Rattle.many_keys.proofs.copies.copy_from.Goals as goal
 
 pub returns-in_err-head-clause-plans : goal.returns-in_err-head-clause-plans
@@ -19,3 +20,6 @@ returns-clause-plans g c =
     (after_told (λ tree. IsFoundBucket c.args.bucket c.args.list c.args.from_bucket (s3_state tree)) (λ tree. IsFoundSource c.args.bucket c.args.list c.args.from_bucket c.args.from_key c.in-Some.head (s3_state tree))
     (Some c.in-Some.head) c.in-Some.is (λ tree found told. record { listed = found.listed; source = told }))
     (λ x. one_more c.args.bucket c.args.from_bucket c.args.from_key 2 x.1.same)
+
+pub returns-clause-stops : goal.returns-clause-stops
+returns-clause-stops g c = stops_behind c.in_ok-head.ensures.asks _ c.copy_found.ensures.stops

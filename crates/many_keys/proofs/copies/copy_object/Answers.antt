@@ -4,6 +4,7 @@ use Rattle.upload_records.specs.Native.{s3_state}
 use Rattle.account_calls.specs.Calls.{Any, TellsBucket}
 use Rattle.account_calls.proofs.lemmas.Ends.{told_nothing, answers, met_settled, after_told, goes_on_from}
 use Rattle.many_keys.proofs.CopySteps.{as_few, one_more, copy_missing}
+use Rattle.account_calls.proofs.lemmas.Refusals.{stops_behind}
 use Rattle.many_keys.proofs.copies.copy_object.Goals as goal
 
 pub returns-in_err-list-clause-plans : goal.returns-in_err-list-clause-plans
@@ -18,3 +19,6 @@ returns-clause-plans g c =
     goes_on_from met_settled c.head_bucket.ensures.stays.settings c.in_ok-list.ensures.asks c.copy_within.ensures.plans
     (after_told (λ tree. Any (s3_state tree)) (λ tree. TellsBucket c.args.bucket (s3_state tree) (Some c.in-Some.list)) (Some c.in-Some.list) c.in-Some.is (λ tree any told. told))
     (λ x. one_more c.args.bucket c.args.from_bucket c.args.from_key 4 x.1.same)
+
+pub returns-clause-stops : goal.returns-clause-stops
+returns-clause-stops g c = stops_behind c.in_ok-list.ensures.asks _ c.copy_within.ensures.stops

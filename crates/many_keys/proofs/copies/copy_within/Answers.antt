@@ -5,6 +5,7 @@ use Rattle.account_calls.specs.Calls.{TellsBucket}
 use Rattle.account_calls.proofs.lemmas.Ends.{needs_none, told_nothing, answers, met_settled, after_told, goes_on_from}
 use Rattle.many_keys.specs.Copies.{IsFoundBucket}
 use Rattle.many_keys.proofs.CopySteps.{as_few, one_more, copy_other, copy_from_missing}
+use Rattle.account_calls.proofs.lemmas.Refusals.{stops_behind}
 use Rattle.many_keys.proofs.copies.copy_within.Goals as goal
 
 pub returns-then-is_other_acl-clause-plans : goal.returns-then-is_other_acl-clause-plans
@@ -24,3 +25,6 @@ returns-clause-plans g c =
     (after_told (λ tree. TellsBucket c.args.bucket (s3_state tree) (Some c.args.list)) (λ tree. IsFoundBucket c.args.bucket c.args.list c.args.from_bucket (s3_state tree)) (Some c.in-Some.from) c.in-Some.is
     (λ tree there told. record { listed = there; from = (c.in-Some.from, told) }))
     (λ x. one_more c.args.bucket c.args.from_bucket c.args.from_key 3 x.1.same)
+
+pub returns-clause-stops : goal.returns-clause-stops
+returns-clause-stops g c = stops_behind c.in_ok-from.ensures.asks _ c.copy_from.ensures.stops

@@ -1,4 +1,4 @@
-use Rattle.std.proofs.Common.{sym, subst, ◌∙◌, lit≤, rules}
+use Rattle.std.proofs.Common.{sym, subst, ◌∙◌, lit≤, rules, refl}
 use Rattle.account_calls.specs.Plan.{Plans}
 use Rattle.account_calls.proofs.lemmas.Ends.{commits, becomes}
 use Rattle.account_calls.proofs.lemmas.Puts.{ensures_ended, ensures_less}
@@ -6,6 +6,8 @@ use Rattle.account_calls.specs.Puts.{EnsuresIfDone}
 use Rattle.many_keys.proofs.CopiesStand.{plain_stands}
 use Rattle.many_keys.proofs.CopySteps.{copy_put}
 use Rattle.many_keys.proofs.Sources.{source_body}
+use Rattle.account_calls.proofs.lemmas.Refusals.{unrefused_ended}
+use Rattle.account_calls.specs.Refusals.{Unrefused}
 use Rattle.many_keys.proofs.copies.put_copy.Goals as goal
 
 pub put_object-requires-clause-etag : goal.put_object-requires-clause-etag
@@ -21,3 +23,6 @@ pub returns-clause-stands : goal.returns-clause-stands
 returns-clause-stands g c =
     subst (EnsuresIfDone _ _) (sym c.end_copy_object_plan.ensures)
     (ensures_less (λ tree stands. plain_stands tree c.args.bucket c.args.key _ _ c.args.body c.args.label.now.moment stands) _ (ensures_ended _ _ c.put_object.ensures.stands))
+
+pub returns-clause-unrefused : goal.returns-clause-unrefused
+returns-clause-unrefused g c = subst Unrefused (sym c.end_copy_object_plan.ensures) (unrefused_ended _ (λ told. refl) _)

@@ -1,9 +1,11 @@
-use Rattle.std.proofs.Common.{sym, subst, lit≤, rules}
+use Rattle.std.proofs.Common.{sym, subst, lit≤, rules, refl}
 use Rattle.account_calls.specs.Plan.{Plans}
 use Rattle.account_calls.proofs.lemmas.Ends.{commits, out_of_memory}
 use Rattle.account_calls.proofs.lemmas.Puts.{ensures_ended}
 use Rattle.account_calls.specs.Puts.{EnsuresIfDone}
 use Rattle.many_keys.proofs.PutsFile.{copy_steps}
+use Rattle.account_calls.proofs.lemmas.Refusals.{unrefused_ended}
+use Rattle.account_calls.specs.Refusals.{Unrefused}
 use Rattle.many_keys.proofs.listed.put_listed_copy.Goals as goal
 
 pub returns-clause-plans : goal.returns-clause-plans
@@ -17,3 +19,6 @@ returns-in_err-etag-clause-plans g c = λ acl list from_bucket from_key replaced
 
 pub returns-clause-stands : goal.returns-clause-stands
 returns-clause-stands g c = subst (EnsuresIfDone _ _) (sym c.end_copy_object_plan.ensures) (ensures_ended _ _ c.put_copy_file.ensures.stands)
+
+pub returns-clause-unrefused : goal.returns-clause-unrefused
+returns-clause-unrefused g c = subst Unrefused (sym c.end_copy_object_plan.ensures) (unrefused_ended _ (λ told. refl) _)

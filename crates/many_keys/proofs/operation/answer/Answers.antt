@@ -6,7 +6,7 @@ use Rattle.many_keys.proofs.Deleting.{none_beside_many}
 use Rattle.many_keys.proofs.operation.answer.Goals as goal
 
 pub returns-clause-answered : goal.returns-clause-answered
-returns-clause-answered g c = subst (Answered _ _ _ _ _ _ _) (sym c.reply_of.ensures) (answered_by (none_beside_many _ c.requires.own) c.plan-end.ensures.plans)
+returns-clause-answered g c = subst (Answered _ _ _ _ _ _ _) (sym c.reply_of.ensures) (answered_by (none_beside_many _ c.requires.own) c.plan-end.ensures.stops c.plan-end.ensures.plans)
 
 pub returns-clause-stands : goal.returns-clause-stands
 returns-clause-stands g c = rw c.reply_of.ensures (ensures_reply _ c.plan-end.ensures.stands)

@@ -9,7 +9,7 @@ pub returns-in-DeleteObjects-clause-plans : goal.returns-in-DeleteObjects-clause
 returns-in-DeleteObjects-clause-plans g c = rw c.in-DeleteObjects.is (rw c.replace.ensures.value at (c.delete_objects.ensures.plans c.args.label.now))
 
 pub returns-in_default : goal.returns-in_default
-returns-in_default g c = record { stays = record { store = refl; settings = refl }; plans = out_of_memory _ (Err Memory) refl; stands = record { so = λ observable. tt } }
+returns-in_default g c = record { stays = record { store = refl; settings = refl }; plans = out_of_memory _ (Err Memory) refl; stops = record { so = tt }; stands = record { so = λ observable. tt } }
 
 pub returns-in-DeleteObjects-clause-stands : goal.returns-in-DeleteObjects-clause-stands
 returns-in-DeleteObjects-clause-stands g c = rw c.in-DeleteObjects.is (ensures_nothing _)
