@@ -15,6 +15,7 @@ use Rattle.swift_calls.specs.History.{History, present}
 use Rattle.upload_records.specs.Native.{IsSettled}
 use Rattle.account_calls.specs.declared.state.Known.{Known}
 use Rattle.account_calls.specs.declared.state.Known.TheVariants as known
+use Rattle.account_calls.specs.Refusals.{IsWithinShown, most_refused}
 use Rattle.account_calls.specs.Answers.{is_upload, is_many, most_calls, most_settling}
 use Rattle.account_calls.specs.Calls.{Bound, always, by_account, amount, IsWithin, GoesOn, Met, Keeps, Any}
 use Rattle.account_calls.specs.Fault.{CausesFault}
@@ -56,6 +57,7 @@ at_once : (h : History) → Readied h h known.Settled
 at_once h = record {
   on = goes_none h;
   still = refl;
+  needs_none = λ is. refl;
   by = λ met. record {
     needs_none = λ is. refl;
     quiet = none_made refl met.sound;
@@ -83,6 +85,7 @@ by_settling : {old middle : History} → Settles old middle (Ok tt) → Readied 
 by_settling {old = old} {middle = middle} settles = record {
   on = settles.asks.grows.on;
   still = settles.asks.cause;
+  needs_none = λ is. absurd (let no : known.Unsure ≡ known.Settled = is in cc);
   by = λ met.
       let told = settles.asks.effect (met_any met) in
       record {
@@ -111,6 +114,7 @@ operated_by {settings = settings} {op = op} {label = label} {old = old} {middle 
   showable = given.showable;
   caused = record {
     unavailable = λ is. rose_later old.faults middle.faults new.faults readied.on.faults (given.unavailable is);
+    refused = λ is. subst (λ n. IsWithinShown (most_refused op reply) n new.called) (readied.needs_none is) given.refused;
     unsure = λ is. inr (given.unsure is);
   };
   effect = λ met.
@@ -125,7 +129,8 @@ operated_by {settings = settings} {op = op} {label = label} {old = old} {middle 
         record { from = old.called; begins = middle.called; committed = told.0; to = new.called; asked = Some (record { op = op; label = label }); takes = told.1 },
         record { from = refl; settles = first; first = told.2.passes.after_p; last = told.2.passes.up_to_q; to = refl; asked = refl; faults = faults },
         answered (settled_by_agree kept first (omega arith) by) told.2 (given.beside found)
-            (subst (λ tree. new.called ≤ middle.called + amount (most_calls op tree)) (sym (kept.accounts middle.called (omega arith))) (within_amount (most_calls op (present middle)) middle.called new.called given.grows.calls found)),
+            (subst (λ tree. new.called ≤ middle.called + amount (most_calls op tree)) (sym (kept.accounts middle.called (omega arith))) (within_amount (most_calls op (present middle)) middle.called new.called given.grows.calls found))
+            given.refused,
       );
   known = λ observable is. given.knows (readied.on.observable observable) (readied.settled observable is);
 }
@@ -164,6 +169,7 @@ not_settled {op = op} {label = label} {old = old} {new = new} fault settles = re
   showable = fault_shown fault;
   caused = record {
     unavailable = λ is. fault_cause fault old.faults new.faults settles.asks.cause is;
+    refused = λ is. absurd (let no : known.Unsure ≡ known.Settled = is in cc);
     unsure = λ is. inl (refl, fault_known fault);
   };
   effect = λ met.

@@ -117,7 +117,7 @@ module _ (settings : Settings) (h : History) (was : Known) (request : Request) (
 
 -- the word that memory ran out is one that may be said to an operation, whatever is known of the store
 out_of_memory_caused : (h : History) (was : Known) (op : Op) → IsCaused (store_cursor h was) (store_cursor h was) op answer.Memory
-out_of_memory_caused h was op = record { unavailable = λ is. absurd (let no : answer.Memory ≡ answer.Refused ServiceUnavailable = is in cc); unsure = λ is. inl (is, inr (inr refl)) }
+out_of_memory_caused h was op = record { unavailable = λ is. absurd (let no : answer.Memory ≡ answer.Refused ServiceUnavailable = is in cc); refused = λ is. tt; unsure = λ is. inl (is, inr (inr refl)) }
 
 -- before the first call the state is the old one, if that is asked for
 old_if_none : (t : Bool) (h : History) (p : ℕ) → OldIf t h p p
@@ -131,6 +131,7 @@ out_of_memory_performs settings h known.Settled op label asked met = answered
     (record { passes = passes_still (none_made refl met.sound); by = memory refl (old_if_none (is_old_if_out_of_memory op) h h.called) })
     (beside_memory (beside_of op) label h h.called)
     (omega arith)
+    tt
 out_of_memory_performs settings h known.Unsure op label asked met = unsettled
     (record { needs_some = refl; quiet = none_made refl met.sound; within = omega arith; says = inr refl })
     refl refl

@@ -19,6 +19,8 @@ use Rattle.s3_machine.specs.State.{State}
 use Rattle.s3_machine.specs.Step.{S3Step}
 use Rattle.swift_calls.specs.History.{History, present}
 use Rattle.upload_records.specs.Native.{IsSettled, s3_state}
+use Rattle.account_calls.specs.Refusals.{IsWithinShown, most_refused}
+use Rattle.account_calls.proofs.lemmas.Refusals.{shown_of}
 use Rattle.account_calls.specs.declared.fault.PlanFault.{PlanFault}
 use Rattle.account_calls.specs.declared.fault.PlanFault.TheVariants as fault
 use Rattle.account_calls.specs.declared.state.Known.{Known}
@@ -140,8 +142,13 @@ beside_read : (op : Op) (found : Found) (label : Label) (h : History) (p q : ℕ
 beside_read op found label h p q reply reads = subst (λ o. SaysBeside (beside_of o) label h p q reply) (sym reads.2) tt
 
 -- a reply behind which the store is known to be settled has its cause
-caused_by : (old new : StoreCursor) (op : Op) (reply : Reply) → new.known ≡ known.Settled → (reply ≡ answer.Refused ServiceUnavailable → Rose old.faults new.faults) → IsCaused old new op reply
-caused_by old new op reply settled rose = record { unavailable = rose; unsure = λ is. absurd (let no : known.Settled ≡ known.Unsure = sym settled ∙ is in cc) }
+caused_by : (old new : StoreCursor) (op : Op) (reply : Reply) → new.known ≡ known.Settled → IsWithinShown (most_refused op reply) old.number new.number
+    → (reply ≡ answer.Refused ServiceUnavailable → Rose old.faults new.faults) → IsCaused old new op reply
+caused_by old new op reply settled shown rose = record { unavailable = rose; refused = λ is. shown; unsure = λ is. absurd (let no : known.Settled ≡ known.Unsure = sym settled ∙ is in cc) }
+
+-- a fault is no refusal
+fault_unshown : (op : Op) (old new : History) (f : PlanFault) → IsWithinShown (most_refused op (reply_of (Err f))) old.called new.called
+fault_unshown op old new f = shown_of op old new (Err f) (record { so = tt })
 
 fault_rose : (T : Type 0) (f : PlanFault) (before then now : ℕ) → before ≤ then → CausesFault {T = T} then now (Err f) → reply_of (Err f) ≡ answer.Refused ServiceUnavailable → Rose before now
 fault_rose T fault.Failed before then now near cause is = rose_later before then now near cause
@@ -187,13 +194,13 @@ module _ {settings : Settings} {op : Op} {label : Label} {found : Found} {old no
         soon = soon;
         replies = performed op means
             (answered so.settled (quiet_own so.quiet (subst (λ b. S3Step settings (s3_state (now.account_at reads.middle.called)) op label (found_reply found b) (s3_state (now.account_at reads.middle.called))) (sym whole) so.body.step))
-            (beside_read op found label now reads.middle.called now.called (found_reply found (done ++ left)) reads.reads) so.bound)
-            (caused_by (store_cursor old was) (store_cursor now known.Settled) op (found_reply found (done ++ left)) refl (λ e. cc)) settles;
+            (beside_read op found label now reads.middle.called now.called (found_reply found (done ++ left)) reads.reads) so.bound tt)
+            (caused_by (store_cursor old was) (store_cursor now known.Settled) op (found_reply found (done ++ left)) refl tt (λ e. cc)) settles;
         failing = λ reply is.
             let same : answer.Memory ≡ reply = cc in
             subst (λ r. Replies settings now (store_cursor old was) (span_to now.called) (store_cursor now known.Settled) request label r) same
-            (performed op means (answered so.settled (quiet_memory so.quiet so.body.step) (beside_read op found label now reads.middle.called now.called answer.Memory reads.reads) so.bound)
-            (caused_by (store_cursor old was) (store_cursor now known.Settled) op answer.Memory refl (λ e. cc)) settles);
+            (performed op means (answered so.settled (quiet_memory so.quiet so.body.step) (beside_read op found label now reads.middle.called now.called answer.Memory reads.reads) so.bound tt)
+            (caused_by (store_cursor old was) (store_cursor now known.Settled) op answer.Memory refl tt (λ e. cc)) settles);
       }
   read_replies false most met =
       let told = reads.told.on.ordered in
@@ -205,8 +212,9 @@ module _ {settings : Settings} {op : Op} {label : Label} {found : Found} {old no
         span = any_span_to now.called;
         is_span = record { from = refl; settles = omega arith; first = omega arith; last = omega (arith, since, told); to = refl; asked = asks_so; faults = faults };
         soon = omega (arith, since, soon);
-        replies = performed_any op means (caused_by (store_cursor old was) (store_cursor now known.Settled) op (found_reply found (done ++ left)) refl (λ e. cc));
-        failing = λ reply is. performed_any op means (caused_by (store_cursor old was) (store_cursor now known.Settled) op reply refl (λ e. (let same : answer.Memory ≡ reply = cc in absurd (let no : answer.Memory ≡ answer.Refused ServiceUnavailable = same ∙ e in cc))));
+        replies = performed_any op means (caused_by (store_cursor old was) (store_cursor now known.Settled) op (found_reply found (done ++ left)) refl tt (λ e. cc));
+        failing = λ reply is. performed_any op means (caused_by (store_cursor old was) (store_cursor now known.Settled) op reply refl
+            (let same : answer.Memory ≡ reply = cc in subst (λ r. IsWithinShown (most_refused op r) old.called now.called) same tt) (λ e. (let same : answer.Memory ≡ reply = cc in absurd (let no : answer.Memory ≡ answer.Refused ServiceUnavailable = same ∙ e in cc))));
       }
 
   -- the last call told nothing
@@ -233,13 +241,13 @@ module _ {settings : Settings} {op : Op} {label : Label} {found : Found} {old no
             soon = soon;
             replies = performed op means
                 (answered so.settled (quiet_own so.quiet (subst (λ b. S3Step settings (s3_state (new.account_at reads.middle.called)) op label (found_reply found b) (s3_state (new.account_at reads.middle.called))) (sym whole) so.body.step))
-                (beside_read op found label new reads.middle.called new.called (found_reply found (done ++ left)) reads.reads) so.bound)
-                (caused_by (store_cursor old was) (store_cursor new known.Settled) op (found_reply found (done ++ left)) refl (λ e. cc)) settles;
+                (beside_read op found label new reads.middle.called new.called (found_reply found (done ++ left)) reads.reads) so.bound tt)
+                (caused_by (store_cursor old was) (store_cursor new known.Settled) op (found_reply found (done ++ left)) refl tt (λ e. cc)) settles;
             failing = λ reply is.
                 let same : reply_of (Err f) ≡ reply = cc in
                 subst (λ r. Replies settings new (store_cursor old was) (span_to new.called) (store_cursor new known.Settled) request label r) same
-                (performed op means (answered so.settled (failed_answers reads asks met other most) (beside_read op found label new reads.middle.called new.called (reply_of (Err f)) reads.reads) so.bound)
-                (caused_by (store_cursor old was) (store_cursor new known.Settled) op (reply_of (Err f)) refl (fault_rose T f old.faults now.faults new.faults before asks.cause)) settles);
+                (performed op means (answered so.settled (failed_answers reads asks met other most) (beside_read op found label new reads.middle.called new.called (reply_of (Err f)) reads.reads) so.bound (fault_unshown op reads.middle new f))
+                (caused_by (store_cursor old was) (store_cursor new known.Settled) op (reply_of (Err f)) refl (fault_unshown op old new f) (fault_rose T f old.faults now.faults new.faults before asks.cause)) settles);
           })
     ]
     failed_replies false most met =
@@ -254,8 +262,9 @@ module _ {settings : Settings} {op : Op} {label : Label} {found : Found} {old no
           span = any_span_to new.called;
           is_span = record { from = refl; settles = omega arith; first = omega arith; last = omega (arith, since, told, then); to = refl; asked = asks_so; faults = faults };
           soon = omega (arith, since, soon);
-          replies = performed_any op means (caused_by (store_cursor old was) (store_cursor new known.Settled) op (found_reply found (done ++ left)) refl (λ e. cc));
+          replies = performed_any op means (caused_by (store_cursor old was) (store_cursor new known.Settled) op (found_reply found (done ++ left)) refl tt (λ e. cc));
           failing = λ reply is. performed_any op means (caused_by (store_cursor old was) (store_cursor new known.Settled) op reply refl
+              (let same : reply_of (Err f) ≡ reply = cc in subst (λ r. IsWithinShown (most_refused op r) old.called new.called) same (fault_unshown op old new f))
               (λ e. (let same : reply_of (Err f) ≡ reply = cc in fault_rose T f old.faults now.faults new.faults before asks.cause (same ∙ e))));
         }
 

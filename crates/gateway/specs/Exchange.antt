@@ -22,6 +22,7 @@ use Rattle.account_calls.specs.declared.state.Known.TheVariants as known
 use Rattle.account_calls.specs.Answers.{Answers, SaysBeside, beside_of, most_calls, most_settling, steps_of, may_leave_unsure}
 use Rattle.account_calls.specs.Calls.{GoesOn, Met, amount}
 use Rattle.account_calls.specs.Known.{IsKnown}
+use Rattle.account_calls.specs.Refusals.{IsWithinShown, most_refused}
 use Rattle.account_calls.specs.Stutters.{Stutters, LastFailed}
 use Rattle.http_wire.specs.FirstMessage.{is_head}
 use Rattle.http_wire.specs.Print.{memory_reply}
@@ -107,19 +108,21 @@ abbrev pub IsFault : Reply → Type 0
 IsFault reply = (reply ≡ Refused ServiceUnavailable) ⊎ ((reply ≡ Refused InconsistentStore) ⊎ (reply ≡ Memory))
 
 -- the causes of a reply to an operation, over every store: ServiceUnavailable comes only where the store's own count of faults
--- rose; and the store isn't known to be settled afterwards only where it wasn't before and the reply is one of a fault, or
+-- rose; a refusal stops at the call that shows it, where the store was known to be settled; and the store isn't known to be settled afterwards only where it wasn't before and the reply is one of a fault, or
 -- where the operation leaves it so
 pub record IsCaused (old new : StoreCursor) (op : Op) (reply : Reply) : Type 0 where
   pub unavailable : reply ≡ Refused ServiceUnavailable → Rose old.faults new.faults
+  pub refused : old.known ≡ known.Settled → IsWithinShown (most_refused op reply) old.number new.number
   pub unsure : new.known ≡ known.Unsure → ((old.known ≡ known.Unsure) × IsFault reply) ⊎ (may_leave_unsure op reply ≡ true)
 
 -- what is said of the reply to an operation, over an observable store: the store could not be settled; or it was, and the
--- operation is answered, with no more calls than it may make
+-- operation is answered, with no more calls than it may make, and of a refusal no more than show it
 pub data Performs (settings : Settings) (h : History) (old : StoreCursor) (span : Span) (new : StoreCursor)
     (op : Op) (label : Label) (reply : Reply) : Type 0 where
   unsettled : NotSettledBy h old.known old.number new.number reply → span.begins ≡ new.number → span.takes ≡ 0 → Performs settings h old span new op label reply
   answered : SettledBy h old.known old.number span.begins → Answers settings h span.begins span.committed new.number op label span.takes reply
-      → SaysBeside (beside_of op) label h span.begins new.number reply → new.number ≤ span.begins + amount (most_calls op (h.account_at span.begins)) → Performs settings h old span new op label reply
+      → SaysBeside (beside_of op) label h span.begins new.number reply → new.number ≤ span.begins + amount (most_calls op (h.account_at span.begins))
+      → IsWithinShown (most_refused op reply) span.begins new.number → Performs settings h old span new op label reply
 
 -- what is said of the reply to a request, over an observable store: the code of one that is no operation, without any call;
 -- or what its operation is answered

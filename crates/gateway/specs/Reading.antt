@@ -49,6 +49,7 @@ use Rattle.gateway.specs.Write.{IsReplyText, CutsHead}
 pub record Readied (old middle : History) (was : Known) : Type 0 where
   pub on : GoesOn old middle
   pub still : middle.faults ≡ old.faults
+  pub needs_none : was ≡ known.Settled → middle.called ≡ old.called
   pub by : Met (IsKnown was) old → SettledBy middle was old.called middle.called
   pub settled : IsTrue old.observable → IsKnown was (present old) → IsSettled (present middle)
 

@@ -28,7 +28,7 @@ unsaid known steady (inr is) = known is
 performs_takes : {settings : Settings} {h : History} {old new : StoreCursor} {span : Span} {op : Op} {label : Label} {reply : Reply} → reply ≢ Memory → reply ≢ Refused ServiceUnavailable
     → Performs settings h old span new op label reply → span.takes ≡ steps_of op
 performs_takes known steady (unsettled not begins takes) = absurd (unsaid known steady not.says)
-performs_takes known steady (answered settled answers beside bound) = by_takes known steady answers.by
+performs_takes known steady (answered settled answers beside bound shown) = by_takes known steady answers.by
 
 pub replies_take : {settings : Settings} {h : History} {old new : StoreCursor} {span : Span} {request : Request} {label : Label} {reply : Reply} (op : Op) → request.means ≡ meant.Op op → reply ≢ Memory → reply ≢ Refused ServiceUnavailable
     → Replies settings h old span new request label reply → span.takes ≡ steps_of op

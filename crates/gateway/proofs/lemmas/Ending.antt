@@ -36,7 +36,7 @@ performs_consistent {h = h} {old = old} {new = new} {reply = reply} (unsettled n
     by : ((reply ≡ Refused ServiceUnavailable) × LastFailed h old.number new.number) ⊎ (reply ≡ Memory) → reply ≢ Refused InconsistentStore
     by (inl (is, failed)) says = cc
     by (inr is) says = cc
-performs_consistent (answered settled answers beside bound) = by_machine answers.by
+performs_consistent (answered settled answers beside bound shown) = by_machine answers.by
 
 -- it comes over no observable store whose account is consistent
 replies_consistent : {settings : Settings} {h : History} {old new : StoreCursor} {span : Span} {request : Request} {label : Label} {reply : Reply} → Replies settings h old span new request label reply → reply ≢ Refused InconsistentStore

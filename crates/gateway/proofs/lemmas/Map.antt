@@ -199,10 +199,10 @@ module _ {h h' : History} {c : ℕ} (kept : Extends c h h') where
   performs_agree : {settings : Settings} {old new : StoreCursor} {span : Span} {asks : Option Asked} {op : Op} {label : Label} {reply : Reply} → IsSpan old span new asks → new.number ≤ c
       → Performs settings h old span new op label reply → Performs settings h' old span new op label reply
   performs_agree is_span near (unsettled not begins takes) = unsettled (not_settled_by_agree (omega arith) near not) begins takes
-  performs_agree {new = new} {span = span} {op = op} {label = label} {reply = reply} is_span near (answered settled answers beside bound) =
+  performs_agree {new = new} {span = span} {op = op} {label = label} {reply = reply} is_span near (answered settled answers beside bound shown) =
       answered (settled_by_agree (omega arith) (omega arith) settled) (answers_agree (extends_before near kept) answers)
       (beside_agree (beside_of op) label reply (omega arith) (extends_before near kept) beside)
-      (subst (λ tree. new.number ≤ span.begins + amount (most_calls op tree)) (sym (kept.accounts span.begins (omega arith))) bound)
+      (subst (λ tree. new.number ≤ span.begins + amount (most_calls op tree)) (sym (kept.accounts span.begins (omega arith))) bound) shown
 
 -- what was said of replies over an observable store, is so in each later history
 pub replies_agree : {settings : Settings} {h h' : History} {first last : StoreCursor} → Extends last.number h h' → FollowsBetween (Replies settings h) (Replies settings h') first last

@@ -49,7 +49,7 @@ performs_pass {settings = settings} {h = h} {old = old} {new = new} {span = span
       settling = subst (λ n. span.begins ≤ n + amount (most_settling (h.account_at n))) (sym is_span.from) (omega arith);
       calls = omega arith;
     }
-performs_pass {settings = settings} {h = h} {span = span} {op = op} {label = label} is_span (answered settled answers beside bound) = record {
+performs_pass {settings = settings} {h = h} {span = span} {op = op} {label = label} is_span (answered settled answers beside bound shown) = record {
   settles = subst (λ n. Stutters h n span.begins) (sym is_span.from) settled.quiet;
   passes = subst (λ n. Passes settings h span.begins span.committed n op label span.takes) (sym is_span.to) answers.passes;
   settling = subst (λ n. span.begins ≤ n + amount (most_settling (h.account_at n))) (sym is_span.from) settled.within;
