@@ -13,3 +13,12 @@ returns-in_default g c = record { stays = record { store = refl; settings = refl
 
 pub returns-in-DeleteObjects-clause-stands : goal.returns-in-DeleteObjects-clause-stands
 returns-in-DeleteObjects-clause-stands g c = rw c.in-DeleteObjects.is (ensures_nothing _)
+
+pub returns-in-DeleteObjects-clause-stops : goal.returns-in-DeleteObjects-clause-stops
+returns-in-DeleteObjects-clause-stops g c = rw c.in-DeleteObjects.is c.delete_objects.ensures.stops
+
+pub returns-in-CopyObject-clause-stops : goal.returns-in-CopyObject-clause-stops
+returns-in-CopyObject-clause-stops g c = rw c.in-CopyObject.is c.copy_object.ensures.stops
+
+pub returns-in-CopyPart-clause-stops : goal.returns-in-CopyPart-clause-stops
+returns-in-CopyPart-clause-stops g c = rw c.in-CopyPart.is c.plan_upload_part_copy.ensures.stops

@@ -21,3 +21,9 @@ returns-in-ListUploads-clause-stands g c = rw c.in-ListUploads.is (ensures_nothi
 
 pub returns-in-ListParts-clause-stands : goal.returns-in-ListParts-clause-stands
 returns-in-ListParts-clause-stands g c = rw c.in-ListParts.is (ensures_nothing _)
+
+pub returns-in-ListUploads-clause-stops : goal.returns-in-ListUploads-clause-stops
+returns-in-ListUploads-clause-stops g c = rw c.in-ListUploads.is c.plan_list_uploads.ensures.stops
+
+pub returns-in-ListParts-clause-stops : goal.returns-in-ListParts-clause-stops
+returns-in-ListParts-clause-stops g c = rw c.in-ListParts.is c.plan_list_parts.ensures.stops

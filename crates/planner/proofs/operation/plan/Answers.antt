@@ -26,3 +26,9 @@ returns-in-DeleteBucket-clause-stops g c = rw c.in-DeleteBucket.is (stops_at_onc
 
 pub returns-in-PutBucketAcl-clause-stops : goal.returns-in-PutBucketAcl-clause-stops
 returns-in-PutBucketAcl-clause-stops g c = rw c.in-PutBucketAcl.is (stops_at_once (lit≤ tt) (lit≤ tt) _ (c.put_bucket_acl.ensures.plans c.args.label.now).grows.calls)
+
+pub returns-in-CreateBucket-clause-stops : goal.returns-in-CreateBucket-clause-stops
+returns-in-CreateBucket-clause-stops g c = rw c.in-CreateBucket.is c.create_bucket.ensures.stops
+
+pub returns-in-ListObjects-clause-stops : goal.returns-in-ListObjects-clause-stops
+returns-in-ListObjects-clause-stops g c = rw c.in-ListObjects.is c.list_objects.ensures.stops

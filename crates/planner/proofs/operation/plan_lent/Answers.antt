@@ -50,3 +50,9 @@ returns-in-GetLocation-clause-stops g c = rw c.in-GetLocation.is (stops_at_once 
 
 pub returns-in-GetBucketAcl-clause-stops : goal.returns-in-GetBucketAcl-clause-stops
 returns-in-GetBucketAcl-clause-stops g c = rw c.in-GetBucketAcl.is (stops_at_once (lit≤ tt) (lit≤ tt) _ (c.get_bucket_acl.ensures.plans c.args.label.now).grows.calls)
+
+pub returns-in-HeadObject-clause-stops : goal.returns-in-HeadObject-clause-stops
+returns-in-HeadObject-clause-stops g c = rw c.in-HeadObject.is c.head_object.ensures.stops
+
+pub returns-in-GetObjectAcl-clause-stops : goal.returns-in-GetObjectAcl-clause-stops
+returns-in-GetObjectAcl-clause-stops g c = rw c.in-GetObjectAcl.is c.get_object_acl.ensures.stops

@@ -7,3 +7,9 @@ returns-in-DeleteObject-clause-plans g c = rw c.in-DeleteObject.is
 
 pub returns-in-DeleteObject-clause-stands : goal.returns-in-DeleteObject-clause-stands
 returns-in-DeleteObject-clause-stands g c = rw c.in-DeleteObject.is (ensures_nothing _)
+
+pub returns-in-PutObject-clause-stops : goal.returns-in-PutObject-clause-stops
+returns-in-PutObject-clause-stops g c = rw c.in-PutObject.is c.put_object.ensures.stops
+
+pub returns-in-DeleteObject-clause-stops : goal.returns-in-DeleteObject-clause-stops
+returns-in-DeleteObject-clause-stops g c = rw c.in-DeleteObject.is c.delete_object.ensures.stops
