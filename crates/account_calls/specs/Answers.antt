@@ -4,6 +4,7 @@ use Rattle.std.specs.Prelude.{◌≡◌, ◌<◌, ◌≤◌, ◌⊎◌, ℕ, suc
 use Rattle.std.specs.FinMap.{entries, get, len}
 use Rattle.std.specs.List.{filter}
 use Rattle.std.specs.Option.{unwrap_or}
+use Rattle.gate_base.specs.Maps.{Names}
 use Rattle.s3_machine.specs.declared.code.Code.{Code}
 use Rattle.s3_machine.specs.declared.code.Code.TheVariants.{ServiceUnavailable, InconsistentStore}
 use Rattle.s3_machine.specs.declared.operation.Label.{Label}
@@ -46,6 +47,7 @@ use Rattle.s3_machine.specs.declared.reading.Conditions.{Conditions}
 use Rattle.s3_machine.specs.declared.reading.Judged.{Judged}
 use Rattle.s3_machine.specs.declared.reading.Judged.TheVariants.{Bytes}
 use Rattle.s3_machine.specs.declared.reading.Range.{Range}
+use Rattle.slo_manifest.specs.declared.Segment.{Segment}
 use Rattle.swift_calls.specs.Account.{SwiftAccount, SwiftObject, files, find_object}
 use Rattle.swift_calls.specs.Bodies as bodies
 use Rattle.swift_calls.specs.History.{History, budget, FaultFree}
@@ -328,13 +330,19 @@ segments_of tree bucket = len (files tree (segments_name bucket))
 abbrev pub named_by : SwiftAccount → List ℕ → List ℕ → ℕ
 named_by tree bucket id = length (filter (λ entry. begins (id ++ (47 ∷ [])) entry.0) (entries (files tree (segments_name bucket))))
 
-abbrev pub listed_in : Option SwiftObject → ℕ
-listed_in None = 0
-listed_in (Some file) = length (unwrap_or (bodies.listed_in file.content) [])
+-- the segments that a file lists: none, where it has bytes of its own
+abbrev pub listed_in : Option SwiftObject → List Segment
+listed_in None = []
+listed_in (Some file) = unwrap_or (bodies.listed_in file.content) []
 
--- how many segments the file of a key lists: none, where it has bytes of its own
+-- how many segments are listed, by themselves and through the sub-manifests among them
+unfoldable pub listed_twice : Names SwiftObject → List Segment → ℕ
+listed_twice segments [] = 0
+listed_twice segments (s ∷ list) = 1 + length (listed_in (get segments s.name)) + listed_twice segments list
+
+-- how many segments the file of a key lists: its own, and those that its sub-manifests list
 abbrev pub listed_by : SwiftAccount → List ℕ → List ℕ → ℕ
-listed_by tree bucket key = listed_in (find_object tree bucket key)
+listed_by tree bucket key = listed_twice (files tree (segments_name bucket)) (listed_in (find_object tree bucket key))
 
 -- an object that has an ETag of parts
 abbrev pub is_of_parts : Option Object → Bool
@@ -342,7 +350,7 @@ is_of_parts None = false
 is_of_parts (Some o) = nat_lt 32 (length o.etag)
 
 -- the calls of a copy: n where its source was put in one piece; of one that has an ETag of parts two more, two for each record and
--- each segment beside the bucket, and two for each segment that the source lists
+-- each segment beside the bucket, and two for each segment that the source lists, the parts and the sub-manifests
 abbrev pub copy_calls : ℕ → SwiftAccount → List ℕ → List ℕ → List ℕ → ℕ
 copy_calls n tree bucket from_bucket from_key =
     cond (is_of_parts (object_at (get (s3_state tree) from_bucket) from_key))

@@ -1,10 +1,11 @@
 -- The plan of the copy of an object that was completed from parts: what each stretch of its calls gives the next.
-use Rattle.std.specs.Prelude.{◌≡◌, ◌<◌, ◌≤◌, ◌+◌, ◌*◌, ◌^◌, ◌&&◌, ℕ, true, false, nat_lt, List, [], ◌∷◌, length, map, take, Option, None, Some, Result, Ok, Err}
+use Rattle.std.specs.Prelude.{◌≡◌, ◌<◌, ◌≤◌, ◌+◌, ◌*◌, ◌/◌, ◌^◌, ◌&&◌, ℕ, suc, Bool, true, false, cond, nat_le, nat_lt, List, [], ◌∷◌, length, map, Option, None, Some, Result, Ok, Err}
 use Rattle.std.specs.Result.{IsErrAnd}
 use Rattle.std.specs.List.{list_all}
 use Rattle.std.specs.FinMap.{get}
-use Rattle.std.proofs.Common.{refl, sym, ap, subst, ◌∙◌, arith}
-use Rattle.std.proofs.lemmas.List.{length-map, take_all}
+use Rattle.std.proofs.Common.{refl, sym, ap, subst, ◌∙◌, arith, true≢false}
+use Rattle.std.proofs.lemmas.Bool.{le-leb, leb-true}
+use Rattle.std.proofs.lemmas.List.{length-map}
 use Rattle.gate_base.specs.Told.{moment_limit}
 use Rattle.s3_names.specs.declared.acl.Acl.{Acl}
 use Rattle.s3_names.specs.Bucket.{is_bucket}
@@ -21,16 +22,17 @@ use Rattle.s3_machine.specs.declared.operation.Op.TheVariants.{CopyObject}
 use Rattle.s3_machine.specs.declared.operation.Replaced.{Replaced}
 use Rattle.s3_machine.specs.declared.operation.Reply.{Reply}
 use Rattle.s3_machine.specs.declared.operation.Settings.{Settings}
-use Rattle.swift_calls.specs.Account.{SwiftAccount, files}
+use Rattle.slo_manifest.specs.declared.manifest.TheConstants.{MOST_SEGMENTS}
+use Rattle.swift_calls.specs.Account.{SwiftAccount, SwiftObject, files}
 use Rattle.swift_calls.specs.History.{History, present}
 use Rattle.swift_marks.specs.Tag.{is_etag}
-use Rattle.upload_texts.specs.Sealed.{part_fits_sealed_text}
+use Rattle.upload_texts.specs.Sealed.{has_sealed_text, part_fits_sealed_text}
 use Rattle.upload_texts.specs.declared.sealed.Sealed.{Sealed}
 use Rattle.upload_texts.specs.declared.sealed.SealedPart.{SealedPart}
 use Rattle.upload_records.specs.Consistent.{AreSealedParts}
-use Rattle.upload_records.specs.Laws.{UnusedIsAbandoned}
-use Rattle.upload_records.specs.Layout.{segments_name}
-use Rattle.upload_records.specs.Native.{listed_of, object_at, s3_state, sealed_bytes}
+use Rattle.upload_records.specs.Laws.{IsUnused, UnusedIsAbandoned}
+use Rattle.upload_records.specs.Layout.{segment_name, segments_name}
+use Rattle.upload_records.specs.Native.{filled_parts, listed_of, object_at, part_segment, part_segments, s3_state, sealed_bytes, sealed_segments, sealed_sub_manifests, sub_manifests}
 use Rattle.account_calls.specs.Answers.{listed_by, records_of, segments_of}
 use Rattle.account_calls.specs.Calls.{Bound, always, by_account, Asks, Given, GivenOf, HasObject, Met, TellsBucket}
 use Rattle.account_calls.specs.Listing.{TellsOf}
@@ -44,10 +46,33 @@ use Rattle.account_calls.proofs.lemmas.Quiet.{asks_same_state}
 use Rattle.upload_calls.specs.Records.{InBucket, TellsFree}
 use Rattle.upload_calls.proofs.lemmas.Free.{unused}
 use Rattle.many_keys.specs.Copies.{IsFoundSource, IsProperHead, content_of}
-use Rattle.many_keys.specs.CopiedLists.{AreOfCut, CopiesFirst, IsCopy, IsUnnamed, MayCopy, MayFill, MayPut, TellsCut, pieces_ascend_from, sealed_copy, is_cut, piece_in}
+use Rattle.many_keys.specs.CopiedLists.{
+  AreOfCut,
+  ArePiecesHere,
+  CopiesFirst,
+  HasCopied,
+  HasCut,
+  IsApart,
+  IsCopy,
+  IsUnnamed,
+  LeavesCopied,
+  MayCopy,
+  MayFill,
+  MayFillCut,
+  MayPut,
+  TellsCut,
+  is_cut,
+  piece_in,
+  pieces_ascend_from,
+  sealed_copy,
+  size_of_cut,
+  subs_listed,
+}
+use Rattle.many_keys.specs.declared.cut.Cut.{Cut}
 use Rattle.many_keys.specs.declared.cut.Piece.{Piece}
 use Rattle.many_keys.proofs.CutCalls.{object_of_head}
 use Rattle.many_keys.proofs.Copying.{keeps_cut}
+use Rattle.many_keys.proofs.PutsCopy.{copy_has_text}
 use Rattle.many_keys.proofs.SideFiles.{bucket_there}
 
 -- ---- what is put
@@ -69,6 +94,10 @@ cut_is_well size {cut = cut} {list = list} same is are =
     let long : length list ≡ length cut = sym (length-map list piece_in) ∙ ap length (are.pieces ∙ same) in
     record { few = omega (arith, few, long); proper = are.proper; ascends = rises_as 0 list ∙ ap (pieces_ascend_from 0) (are.pieces ∙ same) ∙ keeps.ascends }
 
+-- the pieces make as many bytes as they do
+pub sized_cut : (size : ℕ) (cut walked : List Piece) → walked ≡ cut → is_cut size cut ≡ true → is_cut (size_of_cut walked) walked ≡ true
+sized_cut size cut walked same is = subst (λ (l : List Piece). is_cut (size_of_cut l) l ≡ true) (sym same) (ap (λ n. is_cut n cut) (keeps_cut size cut is).whole ∙ is)
+
 pub none_is_well : (list : List SealedPart) → list ≡ [] → IsListWell list
 none_is_well list none = subst IsListWell (sym none) (record { few = omega arith; proper = refl; ascends = refl })
 
@@ -89,6 +118,14 @@ is_copy replaced e place fits content ordered head of_parts well below = record 
   dated = subst (λ (t : Sealed). t.moment < moment_limit) (sym e) below;
 }
 
+-- it lists a part, so it has a text as a completion has
+pub lists_parts : (size : ℕ) {s : Sealed} {bucket key : List ℕ} {id : ℕ} {replaced : Option Replaced} {head : ObjectHead} {list : List SealedPart} {moment : ℕ} {cut walked : List Piece} → s ≡ sealed_copy bucket key id replaced head list moment → IsCopy s
+    → walked ≡ cut → is_cut size cut ≡ true → AreOfCut walked list → has_sealed_text s ≡ true
+lists_parts size {s = s} {list = list} {cut = cut} e copy same is are =
+    let some = (keeps_cut size cut is).some in
+    let long : length list ≡ length cut = sym (length-map list piece_in) ∙ ap length (are.pieces ∙ same) in
+    copy_has_text s copy (λ none. let empty = ap length none in let of_list : length s.list ≡ length list = ap (λ (t : Sealed). length t.list) e in omega (arith, empty, of_list, long, some))
+
 -- it is the copy of the source, where its parts have the source's bytes
 abbrev object_as : Option Replaced → ObjectHead → List ℕ → ℕ → Object
 object_as replaced head bytes moment = record {
@@ -108,26 +145,23 @@ module _ (bucket key : List ℕ) (acl : Acl) (id : ℕ) (from_bucket from_key : 
   as_put = sealed_copy bucket key id replaced head list moment
 
   -- all bytes of the source stand beside the bucket
-  filled_may_put : (old new : SwiftAccount) → s3_state new ≡ s3_state old → MayFill bucket acl id from_bucket from_key head old → CopiesFirst bucket id from_bucket from_key head.size moment old new list
-      → MayPut acl from_bucket from_key replaced as_put new
-  filled_may_put old new same has told =
-      let object = object_of_head (object_at (get (s3_state old) from_bucket) from_key) head has.found.source in
+  filled_may_put : (cut : Cut) (old new : SwiftAccount) → s3_state new ≡ s3_state old → MayFillCut bucket acl id from_bucket from_key head cut old → CopiesFirst bucket id from_bucket cut.id cut.pieces moment old new list
+      → MayPut acl from_bucket from_key replaced as_put 0 new
+  filled_may_put cut old new same has told =
+      let object = object_of_head (object_at (get (s3_state old) from_bucket) from_key) head has.cut.found.source in
       let o = object.0 in
-      let size : length o.bytes ≡ head.size = ap (λ (h : ObjectHead). h.size) object.2 in
-      let all : take head.size o.bytes ≡ o.bytes = take_all head.size o.bytes (omega (arith, size)) in
       record {
-        listed = subst (λ s. TellsBucket bucket s (Some acl)) (sym same) has.found.listed;
+        listed = subst (λ s. TellsBucket bucket s (Some acl)) (sym same) has.cut.found.listed;
         copy = record {
-          unnamed = told.unnamed;
-          parts = told.parts;
+          copied = record { unnamed = told.unnamed; parts = told.parts; subs = λ n below. absurd (omega (arith, below)) };
           object = o;
           found = ap (λ s. object_at (get s from_bucket) from_key) same ∙ object.1;
-          same = copy_is replaced o head (sealed_bytes (files new (segments_name bucket)) (id_digits id) list) moment object.2 (told.bytes o object.1 ∙ all);
+          same = copy_is replaced o head (sealed_bytes (files new (segments_name bucket)) (id_digits id) list) moment object.2 (told.bytes ∙ has.cut.told.bytes o object.1);
         };
       }
 
   -- the source has none
-  empty_may_put : (new : SwiftAccount) → head.size ≡ 0 → list ≡ [] → MayFill bucket acl id from_bucket from_key head new → MayPut acl from_bucket from_key replaced as_put new
+  empty_may_put : (new : SwiftAccount) → head.size ≡ 0 → list ≡ [] → MayFill bucket acl id from_bucket from_key head new → MayPut acl from_bucket from_key replaced as_put (sealed_sub_manifests as_put) new
   empty_may_put new zero_is none has =
       let object = object_of_head (object_at (get (s3_state new) from_bucket) from_key) head has.found.source in
       let o = object.0 in
@@ -135,8 +169,11 @@ module _ (bucket key : List ℕ) (acl : Acl) (id : ℕ) (from_bucket from_key : 
       record {
         listed = has.found.listed;
         copy = record {
-          unnamed = has.unnamed;
-          parts = subst (λ l. AreSealedParts (files new (segments_name bucket)) (id_digits id) l) (sym none) tt;
+          copied = record {
+            unnamed = has.unnamed;
+            parts = subst (λ l. AreSealedParts (files new (segments_name bucket)) (id_digits id) l) (sym none) tt;
+            subs = λ n below. absurd (let no_subs : sealed_sub_manifests as_put ≡ 0 = ap (λ l. sub_manifests (length (part_segments (segments_name bucket) (id_digits id) (filled_parts l)))) none in omega (arith, below, no_subs));
+          };
           object = o;
           found = object.1;
           same = copy_is replaced o head (sealed_bytes (files new (segments_name bucket)) (id_digits id) list) moment object.2 (ap (sealed_bytes (files new (segments_name bucket)) (id_digits id)) none ∙ sym (no_bytes o.bytes size));
@@ -161,6 +198,38 @@ pub fill_after : {bucket from_bucket from_key : List ℕ} {acl : Acl} {head : Ob
 fill_after {bucket = bucket} {from_bucket = from_bucket} {from_key = from_key} {acl = acl} {head = head} {id = id} found tells =
     subst (MayFill bucket acl id from_bucket from_key head) (sym tells.same) (record { unnamed = tells.of_account; found = found })
 
+-- nothing stands under a free id, so it isn't that of a source whose segments are there
+none_here : (o : Option SwiftObject) (file : SwiftObject) → o ≡ Some file → o ≡ None → ⊥
+none_here o file some none = let no_file : Some file ≡ None = sym some ∙ none in cc
+
+apart_by : (tree : SwiftAccount) (bucket : List ℕ) (id : ℕ) (from_bucket : List ℕ) (from_id : ℕ) (cut : List Piece) → 1 ≤ length cut → ArePiecesHere (files tree (segments_name from_bucket)) (id_digits from_id) cut → IsUnused tree bucket (id_digits id)
+    → IsApart bucket id from_bucket from_id
+apart_by tree bucket id from_bucket from_id [] some here free same text = omega (arith, some)
+apart_by tree bucket id from_bucket from_id (p ∷ cut) some here free same text =
+    none_here (get (files tree (segments_name bucket)) (segment_name (id_digits id) p.number)) here.0.file
+    ((λ i. get (files tree (sym same i)) (segment_name (sym text i) p.number)) ∙ here.0.there) (free.bare p.number)
+
+abbrev IsFree : List ℕ → List ℕ → Cut → SwiftAccount → ℕ → Type 0
+IsFree bucket from_bucket cut tree id = IsUnnamed bucket id tree × IsApart bucket id from_bucket cut.id
+
+-- the same, where its bytes are cut so
+asks_apart : {bucket from_bucket from_key : List ℕ} {acl : Acl} {head : ObjectHead} {cut : Cut} {draw : ℕ} → UnusedIsAbandoned → is_bucket bucket ≡ true → is_cut head.size cut.pieces ≡ true → {n : Bound} {a b : History} {id : ℕ}
+    → Asks n a b (GivenOf (InBucket bucket)) (TellsOf (TellsFree bucket draw)) (Ok id) → Asks n a b (GivenOf (HasCut bucket acl from_bucket from_key head cut)) (TellsOf (IsFree bucket from_bucket cut)) (Ok id)
+asks_apart {bucket = bucket} {from_bucket = from_bucket} {acl = acl} {head = head} {cut = cut} law is proper {id = id} asks =
+    asks_told {Q = IsFree bucket from_bucket cut} (λ tree has. record { settled = has.settled; is = bucket_there tree bucket acl is has.settled has.is.found.listed }) id
+    (λ tree sound has first.
+        let free = unused tree bucket (id_digits id) first.free in
+        (
+          record { there = bucket_there tree bucket acl is has.settled has.is.found.listed; abandoned = law tree bucket (id_digits id) is free sound },
+          apart_by tree bucket id from_bucket cut.id cut.pieces (keeps_cut head.size cut.pieces proper).some has.is.told.here free,
+        ))
+    asks
+
+fill_cut : {bucket from_bucket from_key : List ℕ} {acl : Acl} {head : ObjectHead} {cut : Cut} {id : ℕ} {old new : SwiftAccount} → HasCut bucket acl from_bucket from_key head cut old → TellsOf (IsFree bucket from_bucket cut) old new id
+    → MayFillCut bucket acl id from_bucket from_key head cut new
+fill_cut {bucket = bucket} {from_bucket = from_bucket} {from_key = from_key} {acl = acl} {head = head} {cut = cut} {id = id} has tells =
+    subst (MayFillCut bucket acl id from_bucket from_key head cut) (sym tells.same) (record { unnamed = tells.of_account.0; apart = tells.of_account.1; cut = has })
+
 -- ---- the plans
 
 -- calls that failed told nothing, whatever they would have
@@ -178,13 +247,19 @@ asked_in_vain {T = T} m within {f = f} under asks end is = calls_in_vain {P = λ
 abbrev pub PutsListed : History → History → Settings → Result Reply PlanFault → Sealed → Type 0
 PutsListed b c now end s = (acl : Option Acl) (list : Acl) (from_bucket from_key : List ℕ) (replaced : Option Replaced) (label : Label) → is_other_acl acl list ≡ false
     → is_onto_itself s.bucket s.key from_bucket from_key replaced ≡ false → s.moment ≡ label.moment
-    → Plans (always 1) b c now (GivenOf (MayPut list from_bucket from_key replaced s)) (CopyObject s.bucket s.key acl from_bucket from_key replaced) label Settled end
+    → Plans (always 1) b c now (GivenOf (MayPut list from_bucket from_key replaced s (sealed_sub_manifests s))) (CopyObject s.bucket s.key acl from_bucket from_key replaced) label Settled end
+
+-- and that with the sub-manifests before it
+abbrev pub PutsParts : History → History → Settings → Result Reply PlanFault → Sealed → Type 0
+PutsParts b c now end s = (acl : Option Acl) (list : Acl) (from_bucket from_key : List ℕ) (replaced : Option Replaced) (label : Label) → is_other_acl acl list ≡ false
+    → is_onto_itself s.bucket s.key from_bucket from_key replaced ≡ false → s.moment ≡ label.moment
+    → Plans (always (sealed_sub_manifests s + 1)) b c now (GivenOf (MayPut list from_bucket from_key replaced s 0)) (CopyObject s.bucket s.key acl from_bucket from_key replaced) label Settled end
 
 abbrev Found : List ℕ → Acl → List ℕ → List ℕ → ObjectHead → SwiftAccount → Type 0
 Found bucket list from_bucket from_key head tree = IsFoundSource bucket list from_bucket from_key head (s3_state tree)
 
-may_copy : {bucket from_bucket from_key : List ℕ} {list : Acl} {head : ObjectHead} {id : ℕ} (tree : SwiftAccount) → MayFill bucket list id from_bucket from_key head tree → MayCopy bucket id from_bucket from_key head tree
-may_copy tree fill = record { unnamed = fill.unnamed; source = fill.found.source }
+may_copy : {bucket from_bucket from_key : List ℕ} {list : Acl} {head : ObjectHead} {cut : Cut} {id : ℕ} (tree : SwiftAccount) → MayFillCut bucket list id from_bucket from_key head cut tree → MayCopy bucket id from_bucket cut.id cut.pieces tree
+may_copy tree fill = record { unnamed = fill.unnamed; apart = fill.apart; here = fill.cut.told.here }
 
 has_object : {bucket from_bucket from_key : List ℕ} {list : Acl} {head : ObjectHead} {h : History} → Met (Given (IsFoundSource bucket list from_bucket from_key head)) h → Met (Given (HasObject from_bucket from_key head.etag head.size)) h
 has_object {head = head} met = record { observable = met.observable; sound = met.sound; has = record { settled = met.has.settled; is = (head, met.has.is.source, refl, refl) } }
@@ -202,10 +277,18 @@ plans_wider wider plans = record {
 
 module _ {bucket from_bucket from_key : List ℕ} {list : Acl} {head : ObjectHead} {op : Op} {label : Label} {settings : Settings} where
   -- the segments weren't copied
-  pub copy_in_vain : {id size moment : ℕ} {walked : List Piece} (cut : List Piece) {a b : History} {f : PlanFault} → walked ≡ cut
-      → Asks (always (2 * length walked)) a b (GivenOf (MayCopy bucket id from_bucket from_key head)) (CopiesFirst bucket id from_bucket from_key size moment) (Err f) → (end : Result Reply PlanFault) → IsErrAnd end (λ e. e ≡ f)
-      → Plans (always (2 * length cut + 1)) a b settings (GivenOf (MayFill bucket list id from_bucket from_key head)) op label Settled end
-  copy_in_vain {walked = walked} cut same asks end is = asked_in_vain (always (2 * length walked)) (omega (arith, ap length same)) (met_within may_copy) asks end is
+  pub copy_in_vain : {id moment : ℕ} (cut : Cut) {walked : List Piece} {a b : History} {f : PlanFault} → walked ≡ cut.pieces
+      → Asks (always (2 * length walked)) a b (GivenOf (MayCopy bucket id from_bucket cut.id walked)) (CopiesFirst bucket id from_bucket cut.id walked moment) (Err f) → (end : Result Reply PlanFault) → IsErrAnd end (λ e. e ≡ f)
+      → Plans (always (2 * length cut.pieces + (sub_manifests (length cut.pieces) + 1))) a b settings (GivenOf (MayFillCut bucket list id from_bucket from_key head cut)) op label Settled end
+  copy_in_vain {id = id} {moment = moment} cut {a = a} {b = b} {f = f} same asks end is =
+      asked_in_vain (always (2 * length cut.pieces)) (omega arith) (met_within may_copy)
+      (subst (λ l. Asks (always (2 * length l)) a b (GivenOf (MayCopy bucket id from_bucket cut.id l)) (CopiesFirst bucket id from_bucket cut.id l moment) (Err f)) same asks) end is
+
+  -- no id was found for them
+  pub cut_id_in_vain : {cut : Cut} {draw most : ℕ} {n : ℕ} {a b : History} {f : PlanFault} → is_bucket bucket ≡ true → n ≤ most → Asks (by_account n) a b (GivenOf (InBucket bucket)) (TellsOf (TellsFree bucket draw)) (Err f)
+      → (end : Result Reply PlanFault) → IsErrAnd end (λ e. e ≡ f) → Plans (by_account most) a b settings (GivenOf (HasCut bucket list from_bucket from_key head cut)) op label Settled end
+  cut_id_in_vain {n = n} is within asks end same =
+      asked_in_vain (by_account n) within (λ met. record { observable = met.observable; sound = met.sound; has = record { settled = met.has.settled; is = bucket_there _ bucket list is met.has.settled met.has.is.found.listed } }) asks end same
 
   -- no id was found
   pub id_in_vain : {draw most : ℕ} {n : ℕ} {a b : History} {f : PlanFault} → is_bucket bucket ≡ true → n ≤ most → Asks (by_account n) a b (GivenOf (InBucket bucket)) (TellsOf (TellsFree bucket draw)) (Err f)
@@ -214,39 +297,95 @@ module _ {bucket from_bucket from_key : List ℕ} {list : Acl} {head : ObjectHea
       asked_in_vain (by_account n) within (λ met. record { observable = met.observable; sound = met.sound; has = record { settled = met.has.settled; is = bucket_there _ bucket list is met.has.settled met.has.is.listed } }) asks end same
 
   -- the segments are to be copied under it
-  pub id_goes_on : {draw n m id : ℕ} {a b c : History} {now : Settings} {end : Result Reply PlanFault} → UnusedIsAbandoned → is_bucket bucket ≡ true → now ≡ settings
-      → Asks (by_account n) a b (GivenOf (InBucket bucket)) (TellsOf (TellsFree bucket draw)) (Ok id) → Plans (always m) b c now (GivenOf (MayFill bucket list id from_bucket from_key head)) op label Settled end
-      → Plans (by_account (n + m)) a c settings (Given (IsFoundSource bucket list from_bucket from_key head)) op label Settled end
-  id_goes_on law is kept asks plans =
-      goes_on_from {given = Found bucket list from_bucket from_key head} (λ met. met) kept (asks_unnamed law is asks) plans (λ found told. fill_after found told) (λ told. omega arith)
+  pub id_goes_on : {cut : Cut} {draw n m id : ℕ} {a b c : History} {now : Settings} {end : Result Reply PlanFault} → UnusedIsAbandoned → is_bucket bucket ≡ true → is_cut head.size cut.pieces ≡ true → now ≡ settings
+      → Asks (by_account n) a b (GivenOf (InBucket bucket)) (TellsOf (TellsFree bucket draw)) (Ok id) → Plans (always m) b c now (GivenOf (MayFillCut bucket list id from_bucket from_key head cut)) op label Settled end
+      → Plans (by_account (n + m)) a c settings (GivenOf (HasCut bucket list from_bucket from_key head cut)) op label Settled end
+  id_goes_on {cut = cut} law is proper kept asks plans =
+      goes_on_from {given = HasCut bucket list from_bucket from_key head cut} (λ met. met) kept (asks_apart law is proper asks) plans (λ has told. fill_cut has told) (λ told. omega arith)
 
-  -- the list of the segments wasn't read
-  pub cut_in_vain : {most : ℕ} {a b : History} {f : PlanFault} → 1 ≤ most → Asks (always 1) a b (Given (HasObject from_bucket from_key head.etag head.size)) (TellsOf (TellsCut from_bucket from_key)) (Err f)
+  -- the lists of the segments weren't read
+  pub cut_in_vain : {n : ℕ} {most : ℕ} {a b : History} {f : PlanFault} → n ≤ most → Asks (by_account n) a b (Given (HasObject from_bucket from_key head.etag head.size)) (TellsOf (TellsCut from_bucket from_key)) (Err f)
       → (end : Result Reply PlanFault) → IsErrAnd end (λ e. e ≡ f) → Plans (by_account most) a b settings (Given (IsFoundSource bucket list from_bucket from_key head)) op label Settled end
-  cut_in_vain within asks end is = asked_in_vain (always 1) within has_object asks end is
+  cut_in_vain {n = n} within asks end is = asked_in_vain (by_account n) within has_object asks end is
 
-  -- it was, and the copy goes on
-  pub cut_goes_on : (cut : List Piece) {a b c : History} {now : Settings} {end : Result Reply PlanFault} → now ≡ settings
-      → Asks (always 1) a b (Given (HasObject from_bucket from_key head.etag head.size)) (TellsOf (TellsCut from_bucket from_key)) (Ok cut)
-      → Plans (by_account (2 * (records_of (present b) bucket + segments_of (present b) bucket + 1) + (2 * length cut + 1))) b c now (Given (IsFoundSource bucket list from_bucket from_key head)) op label Settled end
+  -- they were, and the copy goes on
+  pub cut_goes_on : (cut : Cut) {a b c : History} {now : Settings} {end : Result Reply PlanFault} → now ≡ settings
+      → Asks (by_account (1 + subs_listed (present a) from_bucket from_key)) a b (Given (HasObject from_bucket from_key head.etag head.size)) (TellsOf (TellsCut from_bucket from_key)) (Ok cut)
+      → Plans (by_account (2 * (records_of (present b) bucket + segments_of (present b) bucket + 1) + (2 * length cut.pieces + (sub_manifests (length cut.pieces) + 1)))) b c now (GivenOf (HasCut bucket list from_bucket from_key head cut)) op label Settled end
       → Plans (by_account (4 + 2 * (records_of (present a) bucket + segments_of (present a) bucket) + 2 * listed_by (present a) from_bucket from_key)) a c settings (Given (IsFoundSource bucket list from_bucket from_key head)) op label Settled end
   cut_goes_on cut {a = a} {b = b} kept asks plans =
       goes_on_from {given = Found bucket list from_bucket from_key head} has_object kept asks plans
-      (λ found told. subst (Found bucket list from_bucket from_key head) (sym told.same) found)
-      (λ told. omega (arith, ap (λ t. records_of t bucket) told.1.same, ap (λ t. segments_of t bucket) told.1.same, told.1.of_account))
+      (λ found told. subst (HasCut bucket list from_bucket from_key head cut) (sym told.same) (record { found = found; told = told.of_account }))
+      (λ told. omega (arith, ap (λ t. records_of t bucket) told.1.same, ap (λ t. segments_of t bucket) told.1.same, told.1.of_account.counted, told.1.of_account.asked))
+
+-- ---- the sub-manifests of the copy
+
+-- segments that are fewer have no more sub-manifests
+fewer_subs : (m n : ℕ) → m ≤ n → sub_manifests m ≤ sub_manifests n
+fewer_subs m n low = by (nat_le m MOST_SEGMENTS) (nat_le n MOST_SEGMENTS) refl refl
+  where
+    by : (t u : Bool) → nat_le m MOST_SEGMENTS ≡ t → nat_le n MOST_SEGMENTS ≡ u → cond t 0 ((m + 999) / MOST_SEGMENTS) ≤ cond u 0 ((n + 999) / MOST_SEGMENTS)
+    by true u few is = omega arith
+    by false true many few = absurd (let high = leb-true n MOST_SEGMENTS few in let never = le-leb m MOST_SEGMENTS (omega (arith, low, high)) in true≢false (sym never ∙ many))
+    by false false many is = omega (arith, low)
+
+filled_few : (list : List SealedPart) → length (filled_parts list) ≤ length list
+filled_few [] = omega arith
+filled_few (p ∷ list) = by (nat_lt 0 p.size) (filled_few list)
+  where
+    by : (t : Bool) → length (filled_parts list) ≤ length list → length (cond t (p ∷ filled_parts list) (filled_parts list)) ≤ suc (length list)
+    by true few = omega (arith, few)
+    by false few = omega (arith, few)
+
+-- it has no more than its source
+pub few_subs : (s : Sealed) (n : ℕ) → n ≡ length s.list → sealed_sub_manifests s ≤ sub_manifests n
+few_subs s n same =
+    let few = filled_few s.list in
+    let long = length-map (filled_parts s.list) (part_segment (segments_name s.bucket) (id_digits s.id)) in
+    fewer_subs (length (sealed_segments s)) n (omega (arith, same, few, long))
+
+module _ (s : Sealed) {settings : Settings} (acl : Option Acl) (list : Acl) (from_bucket from_key : List ℕ) (replaced : Option Replaced) (label : Label) where
+  abbrev may_put_of : (tree : SwiftAccount) → MayPut list from_bucket from_key replaced s 0 tree → HasCopied s 0 tree
+  may_put_of tree may = may.copy.copied
+
+  -- they were put, and the copy's file is
+  pub subs_go_on : {a b c : History} {now : Settings} {end : Result Reply PlanFault} → now ≡ settings → Asks (always (sealed_sub_manifests s)) a b (GivenOf (HasCopied s 0)) (LeavesCopied s (sealed_sub_manifests s)) (Ok tt)
+      → Plans (always 1) b c now (GivenOf (MayPut list from_bucket from_key replaced s (sealed_sub_manifests s))) (CopyObject s.bucket s.key acl from_bucket from_key replaced) label Settled end
+      → Plans (always (sealed_sub_manifests s + 1)) a c settings (GivenOf (MayPut list from_bucket from_key replaced s 0)) (CopyObject s.bucket s.key acl from_bucket from_key replaced) label Settled end
+  subs_go_on kept asks plans =
+      goes_on_from {given = MayPut list from_bucket from_key replaced s 0} (met_within may_put_of) kept (asks_same_state asks) plans
+      (λ may told. record {
+        listed = subst (λ state. TellsBucket s.bucket state (Some list)) (sym told.1) may.listed;
+        copy = record {
+          copied = told.0.copied;
+          object = may.copy.object;
+          found = ap (λ state. object_at (get state from_bucket) from_key) told.1 ∙ may.copy.found;
+          same = ap (λ bytes. record { bytes = bytes; etag = s.etag; content_type = s.content_type; meta = s.meta; modified = s.moment }) told.0.same ∙ may.copy.same;
+        };
+      })
+      (omega arith)
+
+  -- they weren't
+  pub subs_in_vain : {a b : History} {f : PlanFault} → Asks (always (sealed_sub_manifests s)) a b (GivenOf (HasCopied s 0)) (LeavesCopied s (sealed_sub_manifests s)) (Err f) → (end : Result Reply PlanFault) → IsErrAnd end (λ e. e ≡ f)
+      → Plans (always (sealed_sub_manifests s + 1)) a b settings (GivenOf (MayPut list from_bucket from_key replaced s 0)) (CopyObject s.bucket s.key acl from_bucket from_key replaced) label Settled end
+  subs_in_vain asks end is = asked_in_vain (always (sealed_sub_manifests s)) (omega arith) (met_within may_put_of) asks end is
 
 -- ---- the last call
 
 module _ (bucket key from_bucket from_key : List ℕ) (acl : Option Acl) (list : Acl) (replaced : Option Replaced) (head : ObjectHead) (label : Label) (other : is_other_acl acl list ≡ false)
     (onto : is_onto_itself bucket key from_bucket from_key replaced ≡ false) {settings : Settings} where
   -- the segments were copied, and the copy is put
-  pub copy_goes_on : {id : ℕ} {walked : List Piece} (cut : List Piece) {a b c : History} {now : Settings} {s : Sealed} (parts : List SealedPart) {end : Result Reply PlanFault} → walked ≡ cut → now ≡ settings
-      → Asks (always (2 * length walked)) a b (GivenOf (MayCopy bucket id from_bucket from_key head)) (CopiesFirst bucket id from_bucket from_key head.size label.moment) (Ok parts)
-      → s ≡ sealed_copy bucket key id replaced head parts label.moment → PutsListed b c now end s
-      → Plans (always (2 * length cut + 1)) a c settings (GivenOf (MayFill bucket list id from_bucket from_key head)) (CopyObject bucket key acl from_bucket from_key replaced) label Settled end
-  copy_goes_on {id = id} {walked = walked} cut {b = b} {c = c} {now = now} parts {end = end} same kept asks e puts =
-      goes_on_from {given = MayFill bucket list id from_bucket from_key head} (met_within may_copy) kept (asks_same_state asks) (subst (PutsListed b c now end) e puts acl list from_bucket from_key replaced label other onto refl)
-      (λ fill told. filled_may_put bucket key list id from_bucket from_key replaced head parts label.moment _ _ told.1 fill told.0) (omega (arith, ap length same))
+  pub copy_goes_on : {id : ℕ} (cut : Cut) {walked : List Piece} {a b c : History} {now : Settings} {s : Sealed} (parts : List SealedPart) {end : Result Reply PlanFault} → walked ≡ cut.pieces → now ≡ settings
+      → AreOfCut walked parts
+      → Asks (always (2 * length walked)) a b (GivenOf (MayCopy bucket id from_bucket cut.id walked)) (CopiesFirst bucket id from_bucket cut.id walked label.moment) (Ok parts)
+      → s ≡ sealed_copy bucket key id replaced head parts label.moment → PutsParts b c now end s
+      → Plans (always (2 * length cut.pieces + (sub_manifests (length cut.pieces) + 1))) a c settings (GivenOf (MayFillCut bucket list id from_bucket from_key head cut)) (CopyObject bucket key acl from_bucket from_key replaced) label Settled end
+  copy_goes_on {id = id} cut {walked = walked} {a = a} {b = b} {c = c} {now = now} parts {end = end} same kept are asks e puts =
+      let here : Asks (always (2 * length cut.pieces)) a b (GivenOf (MayCopy bucket id from_bucket cut.id cut.pieces)) (CopiesFirst bucket id from_bucket cut.id cut.pieces label.moment) (Ok parts)
+      = subst (λ l. Asks (always (2 * length l)) a b (GivenOf (MayCopy bucket id from_bucket cut.id l)) (CopiesFirst bucket id from_bucket cut.id l label.moment) (Ok parts)) same asks in
+      let few = few_subs (sealed_copy bucket key id replaced head parts label.moment) (length cut.pieces) (ap length (sym same ∙ sym are.pieces) ∙ length-map parts piece_in) in
+      goes_on_from {given = MayFillCut bucket list id from_bucket from_key head cut} (met_within may_copy) kept (asks_same_state here) (subst (PutsParts b c now end) e puts acl list from_bucket from_key replaced label other onto refl)
+      (λ fill told. filled_may_put bucket key list id from_bucket from_key replaced head parts label.moment cut _ _ told.1 fill told.0) (omega (arith, few))
 
   -- an empty copy is put under the id
   pub id_puts : {draw n id : ℕ} {a b c : History} {now : Settings} {s : Sealed} (parts : List SealedPart) {end : Result Reply PlanFault} → UnusedIsAbandoned → is_bucket bucket ≡ true → now ≡ settings

@@ -1,4 +1,5 @@
 pub mod CopiedPart
+pub mod CopiedSubs
 pub mod CopiesStand
 pub mod CopyPlans
 pub mod CopySteps
@@ -9,6 +10,8 @@ pub mod Deleting
 pub mod PieceCalls
 pub mod PutsCopy
 pub mod PutsFile
+pub mod ReadCalls
+pub mod Runs
 pub mod SideFiles
 pub mod Sources
 pub mod Stages

@@ -10,7 +10,6 @@ use Rattle.s3_machine.specs.Copies.{copied, is_onto_itself}
 use Rattle.s3_machine.specs.State.{Object, State}
 use Rattle.s3_machine.specs.Step.{S3Step, is_other_acl}
 use Rattle.s3_machine.specs.Step as machine
-use Rattle.s3_machine.specs.Uploads.{most_parts}
 use Rattle.s3_machine.specs.declared.operation.Label.{Label}
 use Rattle.s3_machine.specs.declared.operation.Op.TheVariants.{CopyObject}
 use Rattle.s3_machine.specs.declared.operation.Replaced.{Replaced}
@@ -23,13 +22,12 @@ use Rattle.swift_calls.specs.declared.calls.SwiftRequest.{SwiftRequest}
 use Rattle.swift_marks.specs.Pack.{pack_of}
 use Rattle.swift_marks.specs.Tag.{tag_text}
 use Rattle.upload_texts.specs.declared.sealed.Sealed.{Sealed}
-use Rattle.upload_records.specs.Consistent.{HasSubManifests, IsConsistent, IsOpen}
+use Rattle.upload_records.specs.Consistent.{IsConsistent, IsOpen}
 use Rattle.upload_records.specs.Laws.{MayStand, PutsFile, Stands}
 use Rattle.upload_records.specs.Layout.{segments_name, uploads_name}
 use Rattle.upload_records.specs.Native.{IsSettled, completed_file, record_at, s3_state, sealed_object, sealed_segments, sealed_sub_manifests, sealed_tag}
 use Rattle.upload_records.proofs.lemmas.Objects.{file_puts}
 use Rattle.upload_records.proofs.lemmas.Rolling.{completed_stands, listing_stands}
-use Rattle.upload_records.proofs.lemmas.Subs.{no_sub_manifests}
 use Rattle.upload_records.proofs.lemmas.Settled.{same_off, settled_same, unsealed_of}
 use Rattle.account_calls.specs.Interpret.{stored_due}
 use Rattle.account_calls.specs.Puts.{etag_put}
@@ -46,15 +44,7 @@ use Rattle.many_keys.proofs.PutsCopy.{copy_segments, copy_stored, tag_has_text}
 -- ---- what it does to the state
 
 module _ (from_bucket from_key : List ℕ) (replaced : Option Replaced) (s : Sealed) (is : IsCopy s) where
-  module _ (tree : SwiftAccount) (sound : IsConsistent tree) (settled : IsSettled tree) (has : HasCopy from_bucket from_key replaced s tree) where
-    -- it has no sub-manifest
-    subs_there : HasSubManifests (files tree (segments_name s.bucket)) (id_digits s.id) (sealed_segments s) (sealed_sub_manifests s)
-    unfolding most_parts
-    subs_there n below =
-        let few = (copy_segments s is).few in
-        let none = no_sub_manifests (length (sealed_segments s)) (omega (arith, few)) in
-        absurd (omega (arith, none, below))
-
+  module _ (tree : SwiftAccount) (sound : IsConsistent tree) (settled : IsSettled tree) (has : HasCopy from_bucket from_key replaced s (sealed_sub_manifests s) tree) where
     may_stand : MayStand (files tree (segments_name s.bucket)) s
     may_stand = record {
       keyed = is.place.keyed;
@@ -65,9 +55,9 @@ module _ (from_bucket from_key : List ℕ) (replaced : Option Replaced) (s : Sea
       ascends = is.ascends;
       counted = all_counted s.list is.proper;
       few = is.few;
-      filed = (sound.buckets s.bucket is.place.named has.unnamed.there).of_segments;
-      parts = has.parts;
-      subs = subs_there;
+      filed = (sound.buckets s.bucket is.place.named has.copied.unnamed.there).of_segments;
+      parts = has.copied.parts;
+      subs = has.copied.subs;
     }
 
     stands : Stands (files tree (segments_name s.bucket)) s (completed_file s)
@@ -76,16 +66,16 @@ module _ (from_bucket from_key : List ℕ) (replaced : Option Replaced) (s : Sea
     takes_list : 0 < length (sealed_listing s) → is_good_list (find_object tree) (sealed_listing s) ≡ true
     takes_list some =
         let lists = copy_segments s is in
-        let parts = (listing_stands (files tree (segments_name s.bucket)) (segments_name s.bucket) (id_digits s.id) 0 s.list is.ascends (all_counted s.list is.proper) may_stand.filed has.parts).0 in
-        takes_listing tree (segments_name s.bucket) (id_digits s.id) (sealed_segments s) parts lists.places lists.few lists.sum (some_parts (segments_name s.bucket) (id_digits s.id) (sealed_segments s) some) subs_there
+        let parts = (listing_stands (files tree (segments_name s.bucket)) (segments_name s.bucket) (id_digits s.id) 0 s.list is.ascends (all_counted s.list is.proper) may_stand.filed has.copied.parts).0 in
+        takes_listing tree (segments_name s.bucket) (id_digits s.id) (sealed_segments s) parts lists.places lists.few lists.sum (some_parts (segments_name s.bucket) (id_digits s.id) (sealed_segments s) some) has.copied.subs
 
     puts : PutsFile tree s.bucket s.key (sealed_object (files tree (segments_name s.bucket)) s) (put_file s.bucket s.key (completed_file s) tree)
     puts = file_puts tree s.bucket s.key (completed_file s) (sealed_object (files tree (segments_name s.bucket)) s) is.place.named stands.is stands.reads
-        (λ id lists opens. has.unnamed.abandoned.closed (subst (λ i. IsOpen (record_at (files tree (uploads_name s.bucket)) (id_digits i))) (stands.lists id lists) opens))
+        (λ id lists opens. has.copied.unnamed.abandoned.closed (subst (λ i. IsOpen (record_at (files tree (uploads_name s.bucket)) (id_digits i))) (stands.lists id lists) opens))
         (copy_stored s is) sound (unsealed_of settled)
 
     folder : (x : SwiftContainer) × (get tree s.bucket ≡ Some x)
-    folder = some_value (get tree s.bucket) has.unnamed.there
+    folder = some_value (get tree s.bucket) has.copied.unnamed.there
 
     answered : swift_step (put_object_of s) tree ≡ put_object (Some folder.0) s.bucket s.key (completed_file s) tree
     answered = put_step tree s.bucket s.key (tag_text (sealed_tag s)) (pack_of s.meta) (sealed_listing s) folder.0 folder.1 takes_list
@@ -103,7 +93,7 @@ module _ (from_bucket from_key : List ℕ) (replaced : Option Replaced) (s : Sea
       };
     }
 
-  put_writes : IsWritingOf (put_object_of s) (stored_due (etag_put (put_object_of s))) (HasCopy from_bucket from_key replaced s) (CopiesObject s.bucket s.key from_bucket from_key replaced s.moment)
+  put_writes : IsWritingOf (put_object_of s) (stored_due (etag_put (put_object_of s))) (HasCopy from_bucket from_key replaced s (sealed_sub_manifests s)) (CopiesObject s.bucket s.key from_bucket from_key replaced s.moment)
   put_writes = record {
     effect = λ tree sound settled has. put_effect tree sound settled has;
     settled = λ tree.
@@ -111,8 +101,8 @@ module _ (from_bucket from_key : List ℕ) (replaced : Option Replaced) (s : Sea
   }
 
   pub puts_copy : {request : SwiftRequest} → request ≡ put_object_of s
-      → IsWritingOf request (stored_due (etag_put request)) (HasCopy from_bucket from_key replaced s) (CopiesObject s.bucket s.key from_bucket from_key replaced s.moment)
-  puts_copy same = subst (λ r. IsWritingOf r (stored_due (etag_put r)) (HasCopy from_bucket from_key replaced s) (CopiesObject s.bucket s.key from_bucket from_key replaced s.moment)) (sym same) put_writes
+      → IsWritingOf request (stored_due (etag_put request)) (HasCopy from_bucket from_key replaced s (sealed_sub_manifests s)) (CopiesObject s.bucket s.key from_bucket from_key replaced s.moment)
+  puts_copy same = subst (λ r. IsWritingOf r (stored_due (etag_put r)) (HasCopy from_bucket from_key replaced s (sealed_sub_manifests s)) (CopiesObject s.bucket s.key from_bucket from_key replaced s.moment)) (sym same) put_writes
 
 -- ---- the step that it is
 
@@ -125,7 +115,7 @@ same_some : (x y : Object) → Some x ≡ Some y → x ≡ y
 same_some x y e = cc
 
 pub copy_steps : (settings : Settings) (acl : Option Acl) (list : Acl) (from_bucket from_key : List ℕ) (replaced : Option Replaced) (label : Label) (s : Sealed) (etag : List ℕ) → is_other_acl acl list ≡ false
-    → is_onto_itself s.bucket s.key from_bucket from_key replaced ≡ false → s.moment ≡ label.moment → etag ≡ s.etag → (tree : SwiftAccount) (told : Unit {0}) (new : State) → MayPut list from_bucket from_key replaced s tree
+    → is_onto_itself s.bucket s.key from_bucket from_key replaced ≡ false → s.moment ≡ label.moment → etag ≡ s.etag → (tree : SwiftAccount) (told : Unit {0}) (new : State) → MayPut list from_bucket from_key replaced s (sealed_sub_manifests s) tree
     → CopiesObject s.bucket s.key from_bucket from_key replaced s.moment told (s3_state tree) new
     → S3Step settings (s3_state tree) (CopyObject s.bucket s.key acl from_bucket from_key replaced) label (Copied false etag s.moment) new
 copy_steps settings acl list from_bucket from_key replaced label s etag same other dated tagged tree told new may does =

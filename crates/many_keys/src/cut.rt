@@ -1,22 +1,17 @@
 //! How the bytes of an object that lists segments are cut.
-ghost use Rattle.std.specs.Prelude.{◌≡◌, ◌≢◌, ◌<◌, ◌==◌, true, length, IfOk, Err};
+ghost use Rattle.std.specs.Prelude.{◌≡◌, ◌≢◌, ◌++◌, ◌==◌, true, IfOk, OnOk, Err};
 ghost use Rattle.std.specs.List.{list_all};
-ghost use Rattle.s3_machine.specs.Step.{IsPlace};
-ghost use Rattle.account_calls.specs.Calls.{always, Asks, Given, HasObject};
 ghost use Rattle.account_calls.specs.Interpret.{Gives};
-ghost use Rattle.account_calls.specs.Lent.{Stays};
-ghost use Rattle.account_calls.specs.Listing.{TellsOf};
 ghost use Rattle.account_calls.specs.declared.fault.PlanFault.TheVariants as fault;
-ghost use Rattle.many_keys.specs.CopiedLists.{TellsCut, pieces_ascend_from, cut_by, cut_due, cut_of, is_cut, is_piece_to_copy, number_at, piece_of, size_of_cut};
+ghost use Rattle.many_keys.specs.CopiedLists.{pieces_ascend_from, cut_by, cut_of, id_in, is_cut, is_piece_to_copy, is_sub_name, list_id, lists_subs, number_at, piece_of, size_of_cut};
 
-use account_calls::{PlanFault, Settled};
-use gate_base::{Bytes, Copying, List, Memory};
-use s3_machine::{GREATEST_PART_NUMBER, MOST_BODY_BYTES, MOST_PARTS, ObjectHead};
+use account_calls::PlanFault;
+use gate_base::{List, Memory};
+use s3_machine::{GREATEST_PART_NUMBER, MOST_BODY_BYTES, MOST_PARTS};
+use s3_names::read_id_digits;
 use slo_manifest::Segment;
 use std::alloc::Global;
-use swift_calls::{Swift, SwiftReply, SwiftRequest};
 use upload_calls::digits_in;
-use upload_records::{law_listing_found, law_object_listed};
 
 /// A segment of an object: the number at the end of its name, and its size in bytes.
 #[derive(Clone, Copy, Debug)]
@@ -25,75 +20,54 @@ pub(crate) struct Piece {
     pub(crate) size: u64,
 }
 
-/// How the bytes of an object with an ETag of parts are cut, of which HEAD told this ETag and this size, by GET of the list of its
-/// file's segments (Object Storage API v1, "Static large objects"). At most one call, and the S3 state stays. Failed comes only
-/// where the store's count of faults rose; Memory where memory ran out; Inconsistent where the list isn't one of parts that make
-/// so many bytes, and never over an observable consistent account whose object has these.
-pub(crate) fn get_pieces_to_copy<W: Swift>(
-    alloc: Global,
-    state: &mut Settled<'_, W>,
-    bucket: &Bytes,
-    key: &Bytes,
-    head: &ObjectHead,
-) -> Result<List<Piece>, PlanFault>
-    requires place { IsPlace bucket.now key.now }
-    requires of_parts { 32 < length head.now.etag }
-    requires filled { 0 < head.now.size }
-    ensures stays { Stays state.old state.new }
-    ensures proper { IfOk result (λ cut. is_cut head.now.size cut ≡ true) }
-    ensures asks { Asks (always 1) (W.history state.old.store.now) (W.history state.new.store.now)
-        (Given (HasObject bucket.now key.now head.now.etag head.now.size))
-        (TellsOf (TellsCut bucket.now key.now)) result }
-{
-    law_listing_found();
-    law_object_listed();
-    let container = bucket.copy()?;
-    let name = key.copy()?;
-    let reply = state.call(SwiftRequest::GetManifest { container, name })?;
-    pieces_to_copy_in_reply(alloc, &reply, head.size)
+/// How the bytes of an object are cut: into the parts of these numbers and sizes, which are segments of one id.
+#[derive(Drop)]
+pub(crate) struct Cut {
+    pub(crate) id: u128,
+    pub(crate) pieces: List<Piece>,
 }
 
-/// The answer to GET of the list of the segments of an object of so many bytes.
-fn pieces_to_copy_in_reply(
-    alloc: Global,
-    reply: &SwiftReply,
-    size: u64,
-) -> Result<List<Piece>, PlanFault>
-    ensures due { Gives result (cut_due size reply.now) }
+/// The pieces of an object of so many bytes whose file lists these parts.
+pub(crate) fn cut_of_list(alloc: Global, listed: &[Segment], size: u64) -> Result<Cut, PlanFault>
+    ensures due { Gives result (cut_by (is_cut size (cut_of listed.now)) (list_id listed.now) (cut_of listed.now)) }
     ensures own { result ≢ Err fault.Failed }
-    ensures proper { IfOk result (λ cut. is_cut size cut ≡ true) }
+    ensures proper { IfOk result (λ cut. is_cut size cut.pieces ≡ true) }
 {
-    match reply {
-        SwiftReply::Manifest(segments) => {
-            let cut = cut_of(alloc, segments.as_slice())?;
-            proper_pieces_to_copy(cut, size)
-        }
-        _ => Err(PlanFault::Inconsistent),
-    }
+    let pieces = cut_of(alloc, listed)?;
+    proper_cut(id_of_list(listed), pieces, size)
 }
 
-fn proper_pieces_to_copy(cut: List<Piece>, size: u64) -> Result<List<Piece>, PlanFault>
-    ensures due { result ≡ cut_by (is_cut size cut) cut }
+/// The pieces of an object of so many bytes, if they are such.
+pub(crate) fn proper_cut(id: u128, pieces: List<Piece>, size: u64) -> Result<Cut, PlanFault>
+    ensures due { result ≡ cut_by (is_cut size pieces) id pieces }
     ensures own { result ≢ Err fault.Failed }
-    ensures proper { IfOk result (λ cut. is_cut size cut ≡ true) }
+    ensures proper { IfOk result (λ cut. is_cut size cut.pieces ≡ true) }
 {
-    if are_whole_pieces_to_copy(size, cut.as_slice()) {
-        Ok(cut)
+    if are_whole_pieces_to_copy(size, pieces.as_slice()) {
+        Ok(Cut { id, pieces })
     } else {
         Err(PlanFault::Inconsistent)
     }
 }
 
-/// The pieces that segments are.
+/// Adds the pieces that segments are.
 #[tactic(auto, using(crate::proofs::Cuts::cut_more, crate::proofs::Cuts::cut_all))]
+pub(crate) fn add_pieces(pieces: &mut List<Piece>, segments: &[Segment]) -> Result<(), Memory>
+    ensures { OnOk result (pieces.new ≡ pieces.old ++ cut_of segments.now) }
+{
+    for segment in segments {
+        pieces.push(piece_of(segment))?;
+    }
+    Ok(())
+}
+
+/// The pieces that segments are.
 fn cut_of(alloc: Global, segments: &[Segment]) -> Result<List<Piece>, Memory>
     ensures { IfOk result (λ cut. cut ≡ cut_of segments.now) }
 {
-    let mut cut = List::new(alloc);
-    for segment in segments {
-        cut.push(piece_of(segment))?;
-    }
-    Ok(cut)
+    let mut pieces = List::new(alloc);
+    add_pieces(&mut pieces, segments)?;
+    Ok(pieces)
 }
 
 fn piece_of(segment: &Segment) -> Piece
@@ -111,6 +85,46 @@ fn number_at(name: &[u8]) -> u32
 {
     let at = name.len().saturating_sub(5);
     digits_in(&name[at..]).unwrap_or(0)
+}
+
+/// The id of the first of the segments, and 0 where there is none.
+pub(crate) fn id_of_list(listed: &[Segment]) -> u128
+    ensures { result ≡ list_id listed.now }
+{
+    match listed.first() {
+        Some(segment) => id_in(segment.name.as_slice()),
+        None => 0,
+    }
+}
+
+/// The id at the beginning of a segment's name, and 0 where no 32 digits stand there.
+fn id_in(name: &[u8]) -> u128
+    ensures { result ≡ id_in name.now }
+{
+    let end = name.len().min(32);
+    read_id_digits(&name[..end]).unwrap_or(0)
+}
+
+/// Whether the first of the segments is a sub-manifest. All are then, for an object lists its parts or its sub-manifests.
+pub(crate) fn lists_sub_manifests(listed: &[Segment]) -> bool
+    ensures { result ≡ lists_subs listed.now }
+{
+    match listed.first() {
+        Some(segment) => is_sub_manifest_name(segment.name.as_slice()),
+        None => false,
+    }
+}
+
+/// Whether a name is that of a sub-manifest: the sixth byte from its end is `m`.
+#[tactic(auto, unfolding(crate::specs::CopiedLists::is_sub_name))]
+fn is_sub_manifest_name(name: &[u8]) -> bool
+    ensures { result ≡ is_sub_name name.now }
+{
+    let at = name.len().saturating_sub(6);
+    match name[at..].first() {
+        Some(byte) => *byte == b'm',
+        None => false,
+    }
 }
 
 /// Whether pieces make so many bytes, as the parts of an object.

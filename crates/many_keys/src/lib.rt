@@ -6,8 +6,10 @@ mod copies;
 mod cut;
 mod deletions;
 mod listed;
+mod manifests;
 mod operation;
 mod segments;
 mod source;
+mod sub_manifests;
 
 pub use operation::answer;

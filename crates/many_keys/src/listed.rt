@@ -11,7 +11,8 @@ ghost use Rattle.s3_machine.specs.declared.operation.Replaced.{Replaced};
 ghost use Rattle.swift_calls.specs.History.{present};
 ghost use Rattle.swift_calls.specs.Step.{Fit};
 ghost use Rattle.swift_marks.specs.Tag.{tag_text};
-ghost use Rattle.upload_records.specs.Native.{sealed_tag};
+ghost use Rattle.upload_records.specs.Native.{sealed_sub_manifests, sealed_tag, sub_manifests};
+ghost use Rattle.upload_texts.specs.Sealed.{has_sealed_text};
 ghost use Rattle.account_calls.specs.Answers.{listed_by, records_of, segments_of};
 ghost use Rattle.account_calls.specs.Calls.{always, by_account, Changes, Given, GivenOf};
 ghost use Rattle.account_calls.specs.Lent.{Stays};
@@ -21,12 +22,14 @@ ghost use Rattle.account_calls.specs.Puts.{EnsuresIfDone, Stands, StandsIn};
 ghost use Rattle.account_calls.specs.Sealed.{put_object_of};
 ghost use Rattle.account_calls.specs.declared.state.Known.TheVariants as known;
 ghost use Rattle.many_keys.specs.Copies.{IsFoundSource, IsProperHead, StandsCopy};
-ghost use Rattle.many_keys.specs.CopiedLists.{CopiesObject, HasCopy, IsCopy, MayFill, MayPut, sealed_copy, is_cut};
+ghost use Rattle.many_keys.specs.CopiedLists.{CopiesObject, HasCopy, HasCut, IsCopy, MayFillCut, MayPut, sealed_copy, is_cut};
 
 use crate::copies::end_copy_object_plan;
-use crate::cut::{Piece, get_pieces_to_copy};
+use crate::cut::Cut;
+use crate::manifests::get_pieces_to_copy;
 use crate::segments::copy_source_segments;
 use crate::source::content_of;
+use crate::sub_manifests::put_copied_sub_manifests;
 use account_calls::{PlanFault, Settled, etag_of_put, interpret_put_with_etag, object_request};
 use gate_base::{Bytes, Copying, List, Memory, drop};
 use s3_machine::{Label, ObjectHead, Replaced, Reply};
@@ -38,12 +41,12 @@ use upload_calls::free_id;
 use upload_records::law_unused_is_abandoned;
 use upload_texts::{Sealed, SealedPart};
 
-/// The rest of CopyObject, of a source that was completed from parts: GET of the list of its segments, the search of an id that is
-/// free, for each segment GET of that range of the source and PUT of it under the id, and then PUT of the copy's file, which lists
-/// what was put and commits. Over an observable consistent account at most four calls, two for each record and each segment beside
-/// the bucket, and two for each segment of the source. An empty source is put under a new id without the calls on its segments. The
-/// reply is made before the last call, so that no memory is needed after it. After a fault some segments may be left that nothing
-/// names.
+/// The rest of CopyObject, of a source that was completed from parts: GET of the list of its segments and of that of each of its
+/// sub-manifests, the search of an id that is free, for each segment GET of its file and PUT of it under the id, PUT of each
+/// sub-manifest of the copy, and then PUT of the copy's file, which lists what was put and commits. Over an observable consistent
+/// account at most four calls, two for each record and each segment beside the bucket, and two for each segment and each sub-manifest
+/// of the source. An empty source is put under a new id without the calls on its segments. The reply is made before the last call,
+/// so that no memory is needed after it. After a fault some segments may be left that nothing names.
 pub(crate) fn copy_source_of_parts<W: Swift>(
     alloc: Global,
     state: &mut Settled<'_, W>,
@@ -141,7 +144,7 @@ fn copy_source_by_pieces<W: Swift>(
     from_key: Bytes,
     replaced: Option<Replaced>,
     head: ObjectHead,
-    cut: List<Piece>,
+    cut: Cut,
     label: &Label,
 ) -> Result<Reply, PlanFault>
     requires place { IsPlace bucket key }
@@ -150,14 +153,15 @@ fn copy_source_by_pieces<W: Swift>(
     requires moment { label.now.moment < moment_limit }
     requires head { IsProperHead head }
     requires of_parts { 32 < length head.etag }
-    requires cut { is_cut head.size cut ≡ true }
+    requires cut { is_cut head.size cut.pieces ≡ true }
     ensures stays { Stays state.old state.new }
     ensures plans { (acl : Option Acl) (list : Acl) → is_other_acl acl list ≡ false
         → is_onto_itself bucket key from_bucket from_key replaced ≡ false
         → Plans (by_account (2 * (records_of (present (W.history state.old.store.now)) bucket
-        + segments_of (present (W.history state.old.store.now)) bucket + 1) + (2 * length cut + 1)))
+        + segments_of (present (W.history state.old.store.now)) bucket + 1)
+        + (2 * length cut.pieces + (sub_manifests (length cut.pieces) + 1))))
         (W.history state.old.store.now) (W.history state.new.store.now) state.old.settings.now
-        (Given (IsFoundSource bucket list from_bucket from_key head))
+        (GivenOf (HasCut bucket list from_bucket from_key head cut))
         (CopyObject bucket key acl from_bucket from_key replaced) label.now known.Settled result }
     ensures stands { EnsuresIfDone (W.history state.new.store.now)
         (StandsCopy bucket key label.now.moment) result }
@@ -190,7 +194,7 @@ fn copy_under<W: Swift>(
     from_key: &Bytes,
     replaced: Option<Replaced>,
     head: ObjectHead,
-    cut: &List<Piece>,
+    cut: &Cut,
     id: u128,
     label: &Label,
 ) -> Result<Reply, PlanFault>
@@ -200,13 +204,13 @@ fn copy_under<W: Swift>(
     requires moment { label.now.moment < moment_limit }
     requires head { IsProperHead head }
     requires of_parts { 32 < length head.etag }
-    requires cut { is_cut head.size cut.now ≡ true }
+    requires cut { is_cut head.size cut.now.pieces ≡ true }
     ensures stays { Stays state.old state.new }
     ensures plans { (acl : Option Acl) (list : Acl) → is_other_acl acl list ≡ false
         → is_onto_itself bucket key from_bucket.now from_key.now replaced ≡ false
-        → Plans (always (2 * length cut.now + 1)) (W.history state.old.store.now)
-        (W.history state.new.store.now) state.old.settings.now
-        (GivenOf (MayFill bucket list id from_bucket.now from_key.now head))
+        → Plans (always (2 * length cut.now.pieces + (sub_manifests (length cut.now.pieces) + 1)))
+        (W.history state.old.store.now) (W.history state.new.store.now) state.old.settings.now
+        (GivenOf (MayFillCut bucket list id from_bucket.now from_key.now head cut.now))
         (CopyObject bucket key acl from_bucket.now from_key.now replaced) label.now known.Settled
         result }
     ensures stands { EnsuresIfDone (W.history state.new.store.now)
@@ -219,15 +223,39 @@ fn copy_under<W: Swift>(
         &bucket,
         id,
         from_bucket,
-        from_key,
-        &head,
-        cut.as_slice(),
+        cut.id,
+        cut.pieces.as_slice(),
         label.moment,
     )?;
     let sealed = sealed_copy(bucket, key, id, replaced, head, parts, label.moment);
-    let end = put_listed_copy(alloc, state, &sealed);
+    let end = put_copy_of_parts(alloc, state, &sealed);
     drop(sealed);
     end
+}
+
+/// The rest of it, whose parts were put: PUT of its sub-manifests, and of its file.
+fn put_copy_of_parts<W: Swift>(
+    alloc: Global,
+    state: &mut Settled<'_, W>,
+    sealed: &Sealed,
+) -> Result<Reply, PlanFault>
+    requires copy { IsCopy sealed.now }
+    requires has { has_sealed_text sealed.now ≡ true }
+    ensures stays { Stays state.old state.new }
+    ensures plans { (acl : Option Acl) (list : Acl) (from_bucket from_key : List ℕ)
+        (replaced : Option Replaced) (label : Label) → is_other_acl acl list ≡ false
+        → is_onto_itself sealed.now.bucket sealed.now.key from_bucket from_key replaced ≡ false
+        → sealed.now.moment ≡ label.moment
+        → Plans (always (sealed_sub_manifests sealed.now + 1)) (W.history state.old.store.now)
+        (W.history state.new.store.now) state.old.settings.now
+        (GivenOf (MayPut list from_bucket from_key replaced sealed.now 0))
+        (CopyObject sealed.now.bucket sealed.now.key acl from_bucket from_key replaced) label
+        known.Settled result }
+    ensures stands { EnsuresIfDone (W.history state.new.store.now)
+        (λ tree. StandsIn tree (put_object_of sealed.now)) result }
+{
+    put_copied_sub_manifests(alloc, state, sealed)?;
+    put_listed_copy(alloc, state, sealed)
 }
 
 /// What is put as the copy, by the source's head. All is moved.
@@ -275,7 +303,8 @@ fn put_listed_copy<W: Swift>(
         → is_onto_itself sealed.now.bucket sealed.now.key from_bucket from_key replaced ≡ false
         → sealed.now.moment ≡ label.moment
         → Plans (always 1) (W.history state.old.store.now) (W.history state.new.store.now)
-        state.old.settings.now (GivenOf (MayPut list from_bucket from_key replaced sealed.now))
+        state.old.settings.now
+        (GivenOf (MayPut list from_bucket from_key replaced sealed.now (sealed_sub_manifests sealed.now)))
         (CopyObject sealed.now.bucket sealed.now.key acl from_bucket from_key replaced) label
         known.Settled result }
     ensures stands { EnsuresIfDone (W.history state.new.store.now)
@@ -286,7 +315,7 @@ fn put_listed_copy<W: Swift>(
     end_copy_object_plan(put_copy_file(alloc, state, sealed), etag, sealed.moment)
 }
 
-/// Puts the copy, whose parts stand beside the bucket, by PUT of its file (Object Storage API v1, "Static large objects"): the one
+/// Puts the copy, whose parts and sub-manifests stand beside the bucket, by PUT of its file (Object Storage API v1, "Static large objects"): the one
 /// call that commits. At most one call. After Ok the S3 state has the copy in place of what stood under the key, and over every
 /// observable store, consistent or not, its file stands. After Failed, which
 /// comes only where the store's count of faults rose, and after Memory the state is the old one or that. Inconsistent never comes
@@ -300,7 +329,7 @@ fn put_copy_file<W: Swift>(
     ensures stays { Stays state.old state.new }
     ensures changes { (from_bucket from_key : List ℕ) (replaced : Option Replaced)
         → Changes (always 1) (W.history state.old.store.now) (W.history state.new.store.now)
-        (GivenOf (HasCopy from_bucket from_key replaced sealed.now))
+        (GivenOf (HasCopy from_bucket from_key replaced sealed.now (sealed_sub_manifests sealed.now)))
         (CopiesObject sealed.now.bucket sealed.now.key from_bucket from_key replaced
         sealed.now.moment) result }
     ensures stands { Stands (W.history state.new.store.now) (put_object_of sealed.now) result }

@@ -1,158 +1,129 @@
 //! The copy of the segments of an object, one after another.
-ghost use Rattle.std.specs.Prelude.{◌≡◌, ◌≢◌, ◌≤◌, ◌<◌, ◌+◌, ◌*◌, true, length, IfOk, Err};
+ghost use Rattle.std.specs.Prelude.{◌≡◌, ◌≢◌, ◌≤◌, ◌<◌, ◌*◌, true, length, IfOk, Err};
 ghost use Rattle.gate_base.specs.Told.{moment_limit};
 ghost use Rattle.s3_names.specs.Bucket.{is_bucket};
 ghost use Rattle.s3_machine.specs.ETag.{body_etag};
 ghost use Rattle.s3_machine.specs.Limits.{most_body_bytes};
-ghost use Rattle.s3_machine.specs.Step.{IsPlace};
 ghost use Rattle.s3_machine.specs.Uploads.{IsPartNumber};
 ghost use Rattle.upload_texts.specs.Sealed.{part_fits_sealed_text};
-ghost use Rattle.account_calls.specs.Calls.{always, Asks, Given, GivenOf, HasObject, Tells};
+ghost use Rattle.account_calls.specs.Calls.{always, Asks, GivenOf};
 ghost use Rattle.account_calls.specs.Interpret.{stored_due};
 ghost use Rattle.account_calls.specs.Lent.{Stays};
+ghost use Rattle.account_calls.specs.Listing.{TellsOf};
 ghost use Rattle.account_calls.specs.Puts.{Stands};
 ghost use Rattle.upload_calls.specs.Interpret.{put_part_of};
 ghost use Rattle.account_calls.specs.declared.fault.PlanFault.TheVariants as fault;
-ghost use Rattle.many_keys.specs.CopiedLists.{AreOfCut, CopiesFirst, CopiesPiece, IsUnnamed, MayCopy, PutsSegment, TellsPiece, is_cut, piece_in, sized_due, told_due};
+ghost use Rattle.many_keys.specs.CopiedLists.{AreOfCut, CopiesFirst, CopiesPiece, HasPiece, IsUnnamed, MayCopy, MayCopyPiece, PutsSegment, TellsPiece, is_cut, piece_due, piece_in, size_of_cut, told_due};
 
 use crate::cut::Piece;
-use account_calls::{PlanFault, Settled, get_object, interpret_put_with_etag};
-use gate_base::{Bytes, Copying, List, drop};
-use s3_machine::{ObjectHead, body_etag};
+use account_calls::{PlanFault, Settled, interpret_put_with_etag};
+use gate_base::{Bytes, List, drop};
+use s3_machine::body_etag;
 use std::alloc::Global;
-use swift_calls::{Swift, SwiftReply};
+use swift_calls::{Swift, SwiftReply, SwiftRequest};
 use upload_calls::part_request;
-use upload_records::law_orphan_put;
+use upload_records::{law_orphan_put, segment_name, segments_container};
 use upload_texts::SealedPart;
 
-/// Copies the segments of an object, of which HEAD told this, under an id that nothing names, each by GET of that range of the
-/// object and PUT of it as the part of the same number (Object Storage API v1, "Get object content and metadata" and "Create or
-/// replace object"). At most two calls for each, and the S3 state stays. What is told are the parts that were put. The faults are
-/// those of the calls; Inconsistent also where a range has another size, and never over an observable consistent account whose
-/// object has this head.
+/// Copies the segments of a source, which are the pieces of this cut, under an id that nothing names, each by GET of its file and PUT of
+/// it as the part of the same number (Object Storage API v1, "Get object content and metadata" and "Create or replace object"). At
+/// most two calls for each, and the S3 state stays. What is told are the parts that were put. The faults are those of the calls;
+/// Inconsistent also where a file has another size, and never over an observable consistent account on which the files are there.
 pub(crate) fn copy_source_segments<W: Swift>(
     alloc: Global,
     state: &mut Settled<'_, W>,
     bucket: &Bytes,
     id: u128,
     from_bucket: &Bytes,
-    from_key: &Bytes,
-    head: &ObjectHead,
+    from_id: u128,
     cut: &[Piece],
     moment: u64,
 ) -> Result<List<SealedPart>, PlanFault>
     requires named { is_bucket bucket.now ≡ true }
-    requires source { IsPlace from_bucket.now from_key.now }
-    requires cut { is_cut head.now.size cut.now ≡ true }
-    requires near { head.now.size < 9223372036854775808 }
+    requires source { is_bucket from_bucket.now ≡ true }
+    requires cut { is_cut (size_of_cut cut.now) cut.now ≡ true }
     requires moment { moment < moment_limit }
     ensures stays { Stays state.old state.new }
     ensures listed { IfOk result (AreOfCut cut.now) }
     ensures asks { Asks (always (2 * length cut.now)) (W.history state.old.store.now) (W.history state.new.store.now)
-        (GivenOf (MayCopy bucket.now id from_bucket.now from_key.now head.now))
-        (CopiesFirst bucket.now id from_bucket.now from_key.now head.now.size moment) result }
+        (GivenOf (MayCopy bucket.now id from_bucket.now from_id cut.now))
+        (CopiesFirst bucket.now id from_bucket.now from_id cut.now moment) result }
 {
     let mut list = List::new(alloc);
-    let mut at = 0;
     for piece in cut {
-        let part = copy_piece(
-            alloc,
-            state,
-            bucket,
-            id,
-            from_bucket,
-            from_key,
-            head,
-            at,
-            *piece,
-            moment,
-        )?;
+        let part = copy_piece(alloc, state, bucket, id, from_bucket, from_id, *piece, moment)?;
         list.push(part)?;
-        at = at + piece.size;
     }
     Ok(list)
 }
 
-/// Copies the segment whose first byte is at this place of the object.
+/// Copies one segment of a source.
 fn copy_piece<W: Swift>(
     alloc: Global,
     state: &mut Settled<'_, W>,
     bucket: &Bytes,
     id: u128,
     from_bucket: &Bytes,
-    from_key: &Bytes,
-    head: &ObjectHead,
-    at: u64,
+    from_id: u128,
     piece: Piece,
     moment: u64,
 ) -> Result<SealedPart, PlanFault>
     requires named { is_bucket bucket.now ≡ true }
-    requires source { IsPlace from_bucket.now from_key.now }
+    requires source { is_bucket from_bucket.now ≡ true }
     requires number { IsPartNumber piece.number }
-    requires filled { 1 ≤ piece.size }
     requires small { piece.size ≤ most_body_bytes }
-    requires within { at + piece.size ≤ head.now.size }
-    requires near { head.now.size < 9223372036854775808 }
     requires moment { moment < moment_limit }
     ensures stays { Stays state.old state.new }
     ensures part { IfOk result (λ part. piece_in part ≡ piece) }
     ensures proper { IfOk result (λ part. part_fits_sealed_text part ≡ true) }
     ensures asks { Asks (always 2) (W.history state.old.store.now) (W.history state.new.store.now)
-        (GivenOf (MayCopy bucket.now id from_bucket.now from_key.now head.now))
-        (CopiesPiece bucket.now id from_bucket.now from_key.now at piece moment) result }
+        (GivenOf (MayCopyPiece bucket.now id from_bucket.now from_id piece))
+        (CopiesPiece bucket.now id from_bucket.now from_id piece moment) result }
 {
-    let bytes = get_piece_to_copy(alloc, state, from_bucket, from_key, head, at, piece.size)?;
+    let bytes = get_piece_to_copy(alloc, state, from_bucket, from_id, piece)?;
     put_copied_segment(alloc, state, bucket, id, piece.number, bytes, moment)
 }
 
-/// So many bytes of an object from this place on, by GET of the range.
+/// The bytes of a segment, by GET of its file.
 fn get_piece_to_copy<W: Swift>(
     alloc: Global,
     state: &mut Settled<'_, W>,
     bucket: &Bytes,
-    key: &Bytes,
-    head: &ObjectHead,
-    at: u64,
-    size: u64,
+    id: u128,
+    piece: Piece,
 ) -> Result<Bytes, PlanFault>
-    requires place { IsPlace bucket.now key.now }
-    requires filled { 1 ≤ size }
-    requires within { at + size ≤ head.now.size }
-    requires near { head.now.size < 9223372036854775808 }
+    requires named { is_bucket bucket.now ≡ true }
+    requires number { IsPartNumber piece.number }
     ensures stays { Stays state.old state.new }
-    ensures sized { IfOk result (λ bytes. length bytes ≡ size) }
+    ensures sized { IfOk result (λ bytes. length bytes ≡ piece.size) }
     ensures asks { Asks (always 1) (W.history state.old.store.now) (W.history state.new.store.now)
-        (Given (HasObject bucket.now key.now head.now.etag head.now.size))
-        (Tells (TellsPiece bucket.now key.now at size)) result }
+        (GivenOf (HasPiece bucket.now id piece)) (TellsOf (TellsPiece bucket.now id piece)) result }
 {
-    let container = bucket.copy()?;
-    let name = key.copy()?;
-    let told = get_object(
-        alloc,
-        state,
+    let container = segments_container(alloc, bucket.as_slice())?;
+    let name = segment_name(alloc, id, piece.number)?;
+    let reply = state.call(SwiftRequest::GetObject {
         container,
         name,
-        head.etag.as_slice(),
-        head.size,
-        Some((at, at + size - 1)),
-    )?;
-    piece_to_copy_of_size(told, size)
+        range: None,
+    })?;
+    piece_in_reply(reply, piece.size)
 }
 
-fn piece_to_copy_of_size(told: Option<Bytes>, size: u64) -> Result<Bytes, PlanFault>
-    ensures due { result ≡ sized_due size told }
+/// The answer to GET of a file of so many bytes.
+fn piece_in_reply(reply: SwiftReply, size: u64) -> Result<Bytes, PlanFault>
+    ensures due { result ≡ piece_due size reply }
     ensures own { result ≢ Err fault.Failed }
     ensures sized { IfOk result (λ bytes. length bytes ≡ size) }
 {
-    match told {
-        Some(bytes) => {
-            if bytes.len() as u64 == size {
-                Ok(bytes)
+    match reply {
+        SwiftReply::Bytes { head: _, body } => {
+            if body.len() as u64 == size {
+                Ok(body)
             } else {
                 Err(PlanFault::Inconsistent)
             }
         }
-        None => Err(PlanFault::Inconsistent),
+        _ => Err(PlanFault::Inconsistent),
     }
 }
 

@@ -1,22 +1,26 @@
-use Rattle.many_keys.proofs.CopyPlans.{copy_goes_on, copy_in_vain, cut_is_well, is_copy}
+use Rattle.std.proofs.Common.{ap, sym, subst, ◌∙◌}
+use Rattle.many_keys.specs.CopiedLists.{is_cut, size_of_cut}
+use Rattle.many_keys.proofs.CopyPlans.{copy_goes_on, copy_in_vain, cut_is_well, is_copy, lists_parts, sized_cut}
 use Rattle.account_calls.proofs.lemmas.Puts.{ensures_less}
 use Rattle.many_keys.proofs.CopiesStand.{listed_stands}
 use Rattle.many_keys.proofs.listed.copy_under.Goals as goal
 
+pub copy_source_segments-requires-clause-cut : goal.copy_source_segments-requires-clause-cut
+copy_source_segments-requires-clause-cut g c = sized_cut c.args.head.size c.args.cut.now.pieces _ c.as_slice.ensures c.requires.cut
+
 pub returns-in_err-parts-clause-plans : goal.returns-in_err-parts-clause-plans
 returns-in_err-parts-clause-plans g c = λ acl list other onto. copy_in_vain c.args.cut.now c.as_slice.ensures c.in_err-parts.ensures.asks _ c.from_residual.ensures.1
 
-pub put_listed_copy-end-requires : goal.put_listed_copy-end-requires
-put_listed_copy-end-requires g c =
-    record {
-      copy = is_copy c.args.replaced c.sealed_copy-sealed.ensures.copy c.requires.place c.sealed_copy-sealed.ensures.fits c.sealed_copy-sealed.ensures.content c.sealed_copy-sealed.ensures.ordered c.requires.head c.requires.of_parts
-          (cut_is_well _ c.as_slice.ensures c.requires.cut c.in_ok-parts.ensures.listed) c.requires.moment;
-    }
+pub put_copy_of_parts-end-requires : goal.put_copy_of_parts-end-requires
+put_copy_of_parts-end-requires g c =
+    let copy = is_copy c.args.replaced c.sealed_copy-sealed.ensures.copy c.requires.place c.sealed_copy-sealed.ensures.fits c.sealed_copy-sealed.ensures.content c.sealed_copy-sealed.ensures.ordered c.requires.head c.requires.of_parts
+        (cut_is_well _ c.as_slice.ensures c.requires.cut c.in_ok-parts.ensures.listed) c.requires.moment in
+    record { copy = copy; has = lists_parts c.args.head.size c.sealed_copy-sealed.ensures.copy copy c.as_slice.ensures c.requires.cut c.in_ok-parts.ensures.listed }
 
 pub returns-clause-plans : goal.returns-clause-plans
 returns-clause-plans g c = λ acl list other onto.
     copy_goes_on _ _ c.args.from_bucket.now c.args.from_key.now acl list c.args.replaced c.args.head c.args.label.now other onto
-    c.args.cut.now c.in_ok-parts.parts c.as_slice.ensures c.copy_source_segments.ensures.stays.settings c.in_ok-parts.ensures.asks c.sealed_copy-sealed.ensures.copy c.put_listed_copy-end.ensures.plans
+    c.args.cut.now c.in_ok-parts.parts c.as_slice.ensures c.copy_source_segments.ensures.stays.settings c.in_ok-parts.ensures.listed c.in_ok-parts.ensures.asks c.sealed_copy-sealed.ensures.copy c.put_copy_of_parts-end.ensures.plans
 
 pub returns-clause-stands : goal.returns-clause-stands
-returns-clause-stands g c = ensures_less (λ tree stands. listed_stands c.sealed_copy-sealed.ensures.copy tree stands) _ c.put_listed_copy-end.ensures.stands
+returns-clause-stands g c = ensures_less (λ tree stands. listed_stands c.sealed_copy-sealed.ensures.copy tree stands) _ c.put_copy_of_parts-end.ensures.stands

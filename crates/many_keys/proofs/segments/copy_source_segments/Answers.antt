@@ -1,30 +1,26 @@
 use Rattle.std.proofs.Common.{refl, ◌∙◌, arith}
-use Rattle.many_keys.proofs.Copying.{copying_all, copying_fault, copying_next, copying_none, copying_unlisted, fewer, piece_at}
+use Rattle.s3_names.specs.Id.{id_digits}
+use Rattle.many_keys.proofs.Copying.{copying_all, copying_fault, copying_next, copying_none, copying_unlisted, fewer, of_the_cut, piece_at}
 use Rattle.many_keys.proofs.segments.copy_source_segments.Goals as goal
 
 pub loop-piece-init : goal.loop-piece-init
-loop-piece-init g c = record { stays = record { store = refl; settings = refl }; copying = copying_none _ _ _ _ _ _ _ c.args.cut.now _ c.new-list.ensures }
+loop-piece-init g c = record { stays = record { store = refl; settings = refl }; copying = copying_none _ _ _ _ _ _ c.args.cut.now _ c.new-list.ensures }
 
 pub copy_piece-requires-clause-number : goal.copy_piece-requires-clause-number
-copy_piece-requires-clause-number g c = (piece_at c.args.head.now.size c.loop-piece.at c.loop-piece.piece-index c.args.cut.now (record { number = 0; size = 0 }) c.requires.cut c.loop-piece.invariant.copying.at_is c.loop-piece-test.true).number
-
-pub copy_piece-requires-clause-filled : goal.copy_piece-requires-clause-filled
-copy_piece-requires-clause-filled g c = (piece_at c.args.head.now.size c.loop-piece.at c.loop-piece.piece-index c.args.cut.now (record { number = 0; size = 0 }) c.requires.cut c.loop-piece.invariant.copying.at_is c.loop-piece-test.true).filled
+copy_piece-requires-clause-number g c = (piece_at c.loop-piece.piece-index c.args.cut.now (record { number = 0; size = 0 }) c.requires.cut c.loop-piece-test.true).number
 
 pub copy_piece-requires-clause-small : goal.copy_piece-requires-clause-small
-copy_piece-requires-clause-small g c = (piece_at c.args.head.now.size c.loop-piece.at c.loop-piece.piece-index c.args.cut.now (record { number = 0; size = 0 }) c.requires.cut c.loop-piece.invariant.copying.at_is c.loop-piece-test.true).small
-
-pub copy_piece-requires-clause-within : goal.copy_piece-requires-clause-within
-copy_piece-requires-clause-within g c = (piece_at c.args.head.now.size c.loop-piece.at c.loop-piece.piece-index c.args.cut.now (record { number = 0; size = 0 }) c.requires.cut c.loop-piece.invariant.copying.at_is c.loop-piece-test.true).within
-
-pub overflow_add-at : goal.overflow_add-at
-overflow_add-at g c = let within = (piece_at c.args.head.now.size c.loop-piece.at c.loop-piece.piece-index c.args.cut.now (record { number = 0; size = 0 }) c.requires.cut c.loop-piece.invariant.copying.at_is c.loop-piece-test.true).within in omega (arith, within, c.requires.near)
+copy_piece-requires-clause-small g c = (piece_at c.loop-piece.piece-index c.args.cut.now (record { number = 0; size = 0 }) c.requires.cut c.loop-piece-test.true).small
 
 pub returns-in_err-part-clause-asks : goal.returns-in_err-part-clause-asks
-returns-in_err-part-clause-asks g c = copying_fault c.loop-piece.invariant.copying _ (fewer c.loop-piece.piece-index c.args.cut.now c.loop-piece-test.true) c.in_err-part.ensures.asks _ c.from_residual.ensures.1
+returns-in_err-part-clause-asks g c =
+    copying_fault c.loop-piece.invariant.copying _ (of_the_cut (id_digits c.args.from_id) c.args.cut.now c.loop-piece.piece-index (record { number = 0; size = 0 }) c.loop-piece-test.true)
+    (fewer c.loop-piece.piece-index c.args.cut.now c.loop-piece-test.true) c.in_err-part.ensures.asks _ c.from_residual.ensures.1
 
 pub returns-in_err-push-clause-asks : goal.returns-in_err-push-clause-asks
-returns-in_err-push-clause-asks g c = copying_unlisted c.loop-piece.invariant.copying _ (fewer c.loop-piece.piece-index c.args.cut.now c.loop-piece-test.true) c.in_ok-part.ensures.asks _ c.from_residual-in_err-push.ensures.1
+returns-in_err-push-clause-asks g c =
+    copying_unlisted c.loop-piece.invariant.copying _ (of_the_cut (id_digits c.args.from_id) c.args.cut.now c.loop-piece.piece-index (record { number = 0; size = 0 }) c.loop-piece-test.true)
+    (fewer c.loop-piece.piece-index c.args.cut.now c.loop-piece-test.true) c.in_ok-part.ensures.asks _ c.from_residual-in_err-push.ensures.1
 
 pub loop-piece-preserved : goal.loop-piece-preserved
 loop-piece-preserved g c = record {
@@ -32,11 +28,11 @@ loop-piece-preserved g c = record {
     store = c.in_ok-part.ensures.stays.store ∙ c.loop-piece.invariant.stays.store;
     settings = c.in_ok-part.ensures.stays.settings ∙ c.loop-piece.invariant.stays.settings;
   };
-  copying = copying_next c.args.cut.now c.loop-piece.piece-index _ c.loop-piece.invariant.copying c.loop-piece-test.true c.requires.cut c.in_ok-part.ensures.asks c.in_ok-part.ensures.part c.in_ok-part.ensures.proper refl c.in_ok-push.ensures.ok;
+  copying = copying_next c.args.cut.now c.loop-piece.piece-index _ c.loop-piece.invariant.copying c.loop-piece-test.true c.requires.cut c.in_ok-part.ensures.asks c.in_ok-part.ensures.part c.in_ok-part.ensures.proper c.in_ok-push.ensures.ok;
 }
 
 pub returns-clause-listed : goal.returns-clause-listed
-returns-clause-listed g c = (copying_all c.args.cut.now c.loop-piece.piece-index c.loop-piece.invariant.copying c.loop-piece-test.false c.requires.cut).0
+returns-clause-listed g c = (copying_all c.args.cut.now c.loop-piece.piece-index c.loop-piece.invariant.copying c.loop-piece-test.false).0
 
 pub returns-clause-asks : goal.returns-clause-asks
-returns-clause-asks g c = (copying_all c.args.cut.now c.loop-piece.piece-index c.loop-piece.invariant.copying c.loop-piece-test.false c.requires.cut).1
+returns-clause-asks g c = (copying_all c.args.cut.now c.loop-piece.piece-index c.loop-piece.invariant.copying c.loop-piece-test.false).1

@@ -6,5 +6,5 @@ use Rattle.many_keys.proofs.segments.copy_source_segments.Given as goal
 abbrev pub invariant-loop-piece : goal.invariant-loop-piece
 invariant-loop-piece g l = record {
   stays : Stays l.initial.state l.state;
-  copying : Copying (g.W.Swift.history l.initial.state.store.now) (g.W.Swift.history l.state.store.now) l.bucket l.id l.from_bucket l.from_key l.head l.moment (take l.piece-index l.cut) l.at l.list;
+  copying : Copying (g.W.Swift.history l.initial.state.store.now) (g.W.Swift.history l.state.store.now) l.bucket l.id l.from_bucket l.from_id l.moment l.cut (take l.piece-index l.cut) l.list;
 }

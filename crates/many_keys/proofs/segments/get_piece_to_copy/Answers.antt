@@ -1,6 +1,9 @@
-use Rattle.std.specs.Prelude.{◌+◌, ◌-◌, Some}
-use Rattle.account_calls.proofs.lemmas.One.{not_asked}
-use Rattle.many_keys.proofs.PieceCalls.{asks_piece, piece_fault}
+use Rattle.std.proofs.Common.{inr, sym, subst}
+use Rattle.swift_calls.specs.Limits.{IsObjectName}
+use Rattle.swift_calls.specs.Step.{IsContainerName}
+use Rattle.account_calls.proofs.lemmas.One.{asked_of, asked_of_in_vain, not_asked}
+use Rattle.account_calls.proofs.lemmas.SideNames.{segment_fits, segments_fits}
+use Rattle.many_keys.proofs.PieceCalls.{piece_reads}
 use Rattle.many_keys.proofs.segments.get_piece_to_copy.Goals as goal
 
 pub returns-in_err-container-clause-asks : goal.returns-in_err-container-clause-asks
@@ -9,8 +12,15 @@ returns-in_err-container-clause-asks g c = not_asked _ _ _ c.from_residual.ensur
 pub returns-in_err-name-clause-asks : goal.returns-in_err-name-clause-asks
 returns-in_err-name-clause-asks g c = not_asked _ _ _ c.from_residual-in_err-name.ensures.1
 
-pub returns-in_err-told-clause-asks : goal.returns-in_err-told-clause-asks
-returns-in_err-told-clause-asks g c = piece_fault c.args.head.now (Some (c.args.at, c.args.at + c.args.size - 1)) c.in_ok-container.ensures c.in_ok-name.ensures c.as_slice.ensures c.in_err-told.ensures.asks _ c.from_residual-in_err-told.ensures.1
+pub call-requires : goal.call-requires
+call-requires g c = (
+  subst IsContainerName (sym c.in_ok-container.ensures) (segments_fits c.args.bucket.now c.requires.named),
+  subst IsObjectName (sym c.in_ok-name.ensures) (segment_fits c.args.id c.args.piece.number c.requires.number),
+  tt,
+)
+
+pub returns-in_err-reply-clause-asks : goal.returns-in_err-reply-clause-asks
+returns-in_err-reply-clause-asks g c = asked_of_in_vain (piece_reads c.in_ok-container.ensures c.in_ok-name.ensures) c.in_err-reply.ensures.calls _ c.from_residual-in_err-reply.ensures.1
 
 pub returns-clause-asks : goal.returns-clause-asks
-returns-clause-asks g c = asks_piece c.args.head.now c.in_ok-container.ensures c.in_ok-name.ensures c.as_slice.ensures c.requires.filled c.requires.within c.in_ok-told.ensures.asks _ c.piece_to_copy_of_size.ensures.due c.piece_to_copy_of_size.ensures.own
+returns-clause-asks g c = asked_of (piece_reads c.in_ok-container.ensures c.in_ok-name.ensures) c.in_ok-reply.ensures.calls _ (inr c.piece_in_reply.ensures.due) c.piece_in_reply.ensures.own

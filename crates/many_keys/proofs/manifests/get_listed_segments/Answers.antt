@@ -1,10 +1,10 @@
-use Rattle.std.proofs.Common.{sym, subst}
+use Rattle.std.proofs.Common.{inr, sym, subst}
 use Rattle.swift_calls.specs.Limits.{IsObjectName}
 use Rattle.swift_calls.specs.Step.{IsContainerName}
 use Rattle.account_calls.proofs.lemmas.Names.{container_name, object_name}
 use Rattle.account_calls.proofs.lemmas.One.{not_asked, asked_of, asked_of_in_vain}
-use Rattle.many_keys.proofs.CutCalls.{cut_reads}
-use Rattle.many_keys.proofs.cut.get_pieces_to_copy.Goals as goal
+use Rattle.many_keys.proofs.CutCalls.{list_reads_so}
+use Rattle.many_keys.proofs.manifests.get_listed_segments.Goals as goal
 
 pub returns-in_err-container-clause-asks : goal.returns-in_err-container-clause-asks
 returns-in_err-container-clause-asks g c = not_asked _ _ _ c.from_residual.ensures.1
@@ -20,10 +20,10 @@ call-requires g c = (
 
 pub returns-in_err-reply-clause-asks : goal.returns-in_err-reply-clause-asks
 returns-in_err-reply-clause-asks g c =
-    asked_of_in_vain (cut_reads c.law_listing_found.ensures c.law_object_listed.ensures c.in_ok-container.ensures c.in_ok-name.ensures c.requires.place.named c.requires.of_parts c.requires.filled)
+    asked_of_in_vain (list_reads_so c.law_listing_found.ensures c.in_ok-container.ensures c.in_ok-name.ensures c.requires.place.named c.requires.of_parts c.requires.filled)
     c.in_err-reply.ensures.calls _ c.from_residual-in_err-reply.ensures.1
 
 pub returns-clause-asks : goal.returns-clause-asks
 returns-clause-asks g c =
-    asked_of (cut_reads c.law_listing_found.ensures c.law_object_listed.ensures c.in_ok-container.ensures c.in_ok-name.ensures c.requires.place.named c.requires.of_parts c.requires.filled)
-    c.in_ok-reply.ensures.calls _ c.pieces_to_copy_in_reply.ensures.due c.pieces_to_copy_in_reply.ensures.own
+    asked_of (list_reads_so c.law_listing_found.ensures c.in_ok-container.ensures c.in_ok-name.ensures c.requires.place.named c.requires.of_parts c.requires.filled)
+    c.in_ok-reply.ensures.calls _ (inr c.listed_in_reply.ensures.due) c.listed_in_reply.ensures.own

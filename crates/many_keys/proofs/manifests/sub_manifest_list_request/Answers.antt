@@ -1,0 +1,6 @@
+use Rattle.std.proofs.Common.{arith}
+use Rattle.account_calls.proofs.lemmas.SideNames.{segments_fits, sub_fits}
+use Rattle.many_keys.proofs.manifests.sub_manifest_list_request.Goals as goal
+
+pub returns-clause-fits : goal.returns-clause-fits
+returns-clause-fits g c = ?

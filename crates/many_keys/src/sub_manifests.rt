@@ -1,0 +1,85 @@
+//! The sub-manifests of a copy, which are put after its parts and before its file.
+ghost use Rattle.std.specs.Prelude.{◌≡◌, ◌<◌, ◌+◌, true};
+ghost use Rattle.upload_texts.specs.Sealed.{has_sealed_text};
+ghost use Rattle.upload_records.specs.Native.{sealed_segments, sealed_sub_manifests};
+ghost use Rattle.account_calls.specs.Calls.{always, Asks, GivenOf};
+ghost use Rattle.account_calls.specs.Lent.{Stays};
+ghost use Rattle.account_calls.specs.Puts.{Stands};
+ghost use Rattle.account_calls.specs.Sealed.{put_sub_of};
+ghost use Rattle.many_keys.specs.CopiedLists.{HasCopied, IsCopy, LeavesCopied};
+
+use account_calls::{
+    PlanFault, Settled, etag_of_put, interpret_put_with_etag, sealed_segments, sub_manifest_count,
+    sub_manifest_request,
+};
+use slo_manifest::Segment;
+use std::alloc::Global;
+use swift_calls::Swift;
+use upload_records::law_orphan_listed;
+use upload_texts::Sealed;
+
+/// Puts the sub-manifests of a copy whose parts stand beside the bucket; none, where its own manifest may list them. One call for
+/// each, and the S3 state stays. The faults are those of the calls; Inconsistent never comes over an observable consistent account
+/// on which nothing names the id.
+pub(crate) fn put_copied_sub_manifests<W: Swift>(
+    alloc: Global,
+    state: &mut Settled<'_, W>,
+    sealed: &Sealed,
+) -> Result<(), PlanFault>
+    requires copy { IsCopy sealed.now }
+    requires has { has_sealed_text sealed.now ≡ true }
+    ensures stays { Stays state.old state.new }
+    ensures asks { Asks (always (sealed_sub_manifests sealed.now)) (W.history state.old.store.now)
+        (W.history state.new.store.now) (GivenOf (HasCopied sealed.now 0))
+        (LeavesCopied sealed.now (sealed_sub_manifests sealed.now)) result }
+{
+    let segments = sealed_segments(alloc, sealed)?;
+    put_copied_sub_manifests_of(alloc, state, sealed, segments.as_slice())
+}
+
+/// The same, by the segments that its parts are.
+fn put_copied_sub_manifests_of<W: Swift>(
+    alloc: Global,
+    state: &mut Settled<'_, W>,
+    sealed: &Sealed,
+    segments: &[Segment],
+) -> Result<(), PlanFault>
+    requires copy { IsCopy sealed.now }
+    requires has { has_sealed_text sealed.now ≡ true }
+    requires are { segments.now ≡ sealed_segments sealed.now }
+    ensures stays { Stays state.old state.new }
+    ensures asks { Asks (always (sealed_sub_manifests sealed.now)) (W.history state.old.store.now)
+        (W.history state.new.store.now) (GivenOf (HasCopied sealed.now 0))
+        (LeavesCopied sealed.now (sealed_sub_manifests sealed.now)) result }
+{
+    let count = sub_manifest_count(segments.len());
+    for n in 0..count {
+        put_copied_sub_manifest(alloc, state, sealed, segments, n)?;
+    }
+    Ok(())
+}
+
+/// Puts the sub-manifest of that number, counted from 0, where those before it are there (Object Storage API v1, "Static large
+/// objects").
+fn put_copied_sub_manifest<W: Swift>(
+    alloc: Global,
+    state: &mut Settled<'_, W>,
+    sealed: &Sealed,
+    segments: &[Segment],
+    n: usize,
+) -> Result<(), PlanFault>
+    requires copy { IsCopy sealed.now }
+    requires has { has_sealed_text sealed.now ≡ true }
+    requires are { segments.now ≡ sealed_segments sealed.now }
+    requires below { n < sealed_sub_manifests sealed.now }
+    ensures stays { Stays state.old state.new }
+    ensures asks { Asks (always 1) (W.history state.old.store.now) (W.history state.new.store.now)
+        (GivenOf (HasCopied sealed.now n)) (LeavesCopied sealed.now (n + 1)) result }
+    ensures stands { Stands (W.history state.new.store.now) (put_sub_of sealed.now n) result }
+{
+    law_orphan_listed();
+    let request = sub_manifest_request(alloc, sealed, segments, n)?;
+    let etag = etag_of_put(&request);
+    let reply = state.call(request)?;
+    interpret_put_with_etag(&reply, &etag)
+}
