@@ -2649,18 +2649,99 @@ def a_file_of_sqlite_is_served(check):
         file = os.path.join(folder, "store.db")
         with contextlib.closing(sqlite3.connect(file)) as database:
             database.executescript(TABLES)
-            database.execute("INSERT INTO containers VALUES (?, 0, 7)", (b"b",))
-            for name, kind in ((b"k", 0), (b"odd", 2)):
-                database.execute("INSERT INTO objects VALUES (?, ?, ?, ?, ?, 3, ?, ?)", (b"b", name, kind, b"t", b"3.a:1", ABC.encode(), b"abc"))
+            for row in ((b"b", 0, 7), (b"readers", 2, 7), (b"moment", 0, 253402300800), (b"none", 1, None)):
+                database.execute("INSERT INTO containers VALUES (?, ?, ?)", row)
+            good = (0, b"t", b"3.a:1", 3, ABC.encode(), b"abc")
+            # Each with the columns that are no object's: kind, metadata, size, a list whose text is none.
+            odd = {"kind": (2, *good[1:]), "sign": (-1, *good[1:]), "meta": (0, b"t", b"4.a:1", *good[3:]), "size": (*good[:3], 4, *good[4:]), "list": (1, *good[1:])}
+            for name, row in {"k": good, **odd}.items():
+                database.execute("INSERT INTO objects VALUES (?, ?, ?, ?, ?, ?, ?, ?)", (b"b", name.encode(), *row))
             database.commit()
         with Swiftd(words=["--file", file]) as store:
-            with store.client(swift("GET", f"{root}/b/k")) as client:
+            with store.client(swift("GET", f"{root}/b/k"), swift("HEAD", f"{root}/none")) as client:
                 check("what SQLite wrote is an object", (200, b"abc"), both(client.reply()))
-            for method in ("GET", "HEAD"):
-                with store.client(swift(method, f"{root}/b/odd"), swift("GET", f"{root}/b/k")) as client:
-                    check(f"a row of no kind: {method}, and the end", [503, None], [client.reply(method == "HEAD").status, client.reply()])
-            with store.client(swift("PUT", f"{root}/b/odd", [("Content-Type", "t")], b"abd"), swift("GET", f"{root}/b/odd")) as client:
-                check("but it can be put over", [201, (200, b"abd")], [client.reply().status, both(client.reply())])
+                check("and a container", 204, client.reply(True).status)
+            for name in odd:
+                with store.client(swift("GET", f"{root}/b/{name}"), swift("GET", f"{root}/b/k")) as client:
+                    check(f"a row that is no object's ({name}), and the end", [503, None], [client.reply().status, client.reply()])
+                with store.client(swift("PUT", f"{root}/b/{name}", [("Content-Type", "t")], b"abd"), swift("GET", f"{root}/b/{name}")) as client:
+                    check("but it can be put over", [201, (200, b"abd")], [client.reply().status, both(client.reply())])
+            for name in ("readers", "moment"):
+                with store.client(swift("HEAD", f"{root}/{name}"), swift("GET", f"{root}/b/k")) as client:
+                    check(f"a row that is no container's ({name}), and the end", [503, None], [client.reply(True).status, client.reply()])
+
+
+@group()
+def a_file_after_kills(check):
+    # What each name may hold; no bytes where it may hold nothing.
+    root, bodies, may = f"/v1/{ACCOUNT}", [random.Random(at).randbytes(at * 40) for at in range(1, 200)], {}
+    with tempfile.TemporaryDirectory() as folder:
+        words, made = ["--file", os.path.join(folder, "store.db")], [swift("PUT", f"{root}/b", NOBODY)]
+        for turn in range(4):
+            with Swiftd(words=words) as store:
+                with store.client(*made, *(swift("GET", f"{root}/b/{name}") for name in may)) as client:
+                    client.replies(len(made))
+                    held = {name: it.body if it.status == 200 else b"" for name, it in zip(may, iter(client.reply, None))}
+                check(f"what was answered is there after {turn} kills", [], [name for name in may if held[name] not in may[name]])
+                may, made, killer = {name: {body} for name, body in held.items()}, [], threading.Timer(random.uniform(0.02, 0.3), store.signal, [signal.SIGKILL])
+                killer.start()
+                with contextlib.suppress(OSError, AssertionError), store.client() as client:
+                    for at, body in enumerate(random.sample(bodies, len(bodies)) * 20):
+                        name = f"k{at % 50}"
+                        # What is cut off may be done or not.
+                        may[name] = may.get(name, {b""}) | {body}
+                        client.send(swift("PUT", f"{root}/b/{name}", [("Content-Type", "t")], body))
+                        answered = client.reply()
+                        if not answered or answered.status != 201:
+                            break
+                        may[name] = {body}
+                killer.join()
+                check("and the kill came while it wrote", -signal.SIGKILL, store.ended()[0])
+
+
+@group()
+def a_file_on_a_full_disk(check):
+    """Where a file system of its own can be mounted, which is root's."""
+    root, body = f"/v1/{ACCOUNT}", random.Random(1).randbytes(100000)
+    with tempfile.TemporaryDirectory() as folder:
+        if subprocess.run(["mount", "-t", "tmpfs", "-o", "size=12m", "none", folder], capture_output=True).returncode:
+            return
+        try:
+            words, done = ["--file", os.path.join(folder, "store.db")], 0
+
+            def put(store, name, sent=body):
+                with store.client(swift("PUT", f"{root}/b/{name}", [("Content-Type", "t")], sent)) as client:
+                    return client.reply().status
+
+            def are_whole(store):
+                with store.client(*(swift("GET", f"{root}/b/{at}") for at in range(done))) as client:
+                    return [both(client.reply()) for _ in range(done)] == [(200, body)] * done
+
+            with Swiftd(words=words) as store:
+                with store.client(swift("PUT", f"{root}/b", NOBODY)) as client:
+                    client.reply()
+                while done < 200 and put(store, done) == 201:
+                    done += 1
+                check("a disk has an end", True, 10 < done < 200)
+                with store.client(swift("DELETE", f"{root}/b/0"), swift("GET", f"{root}/b/k")) as client:
+                    check("on a full one a write is refused, and the end", [503, None], [client.reply().status, client.reply()])
+                check("and what was answered is there", True, are_whole(store))
+                store.signal(signal.SIGKILL)
+                store.ended()
+            with Swiftd(words=words) as store:
+                check("also after a kill", True, are_whole(store))
+                check("a write is still refused", 503, put(store, "0", b"other"))
+                subprocess.run(["mount", "-o", "remount,size=40m", folder], check=True)
+                check("until there is room", [201, True], [put(store, done), are_whole(store)])
+            full = os.path.join(folder, "full")
+            with open(full, "wb") as file, contextlib.suppress(OSError):
+                while True:
+                    file.write(bytes(1 << 16))
+                    file.flush()
+            again = ran(SWIFTD, ["--token", "t", "--account", "a", "--connections", "1", "--file", os.path.join(folder, "other.db")], SWIFTD_LISTEN=NOWHERE)
+            check("and a new file finds none", (9, b"", b"swiftd: setup\n--file: no room on the disk\n"), again)
+        finally:
+            subprocess.run(["umount", folder], check=True)
 
 
 @group()

@@ -70,10 +70,9 @@ quiet crates/s3gate env -u S3GATE_KEYS rt run -- session
 place="http://127.0.0.1:$port"
 store="127.0.0.1:$((port + 1))"
 read -r id secret <examples/keys.txt
-# Waits until a port is listened at, by the server that was started for it.
+# Waits until a port is listened at, by the server that was started for it. swiftd reads its whole file before.
 await() {
-    for _ in $(seq 600); do
-        kill -0 "$1" 2>/dev/null || break
+    while kill -0 "$1" 2>/dev/null; do
         if is_taken "$2"; then return; fi
         sleep 0.1
     done

@@ -105,4 +105,4 @@ make() {
 }
 
 make s3gate "$s3gate" "S3 gateway to OpenStack Swift" "/etc/s3gate/keys /etc/default/s3gate"
-make swiftd "$swiftd" "small Swift store in memory" ""
+make swiftd "$swiftd" "small Swift store" ""
