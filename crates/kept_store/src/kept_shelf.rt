@@ -1,9 +1,12 @@
 //! A shelf over a connection.
-ghost use Rattle.std.specs.Prelude.{◌≡◌, true, false, OnErr};
+ghost use Rattle.std.specs.Prelude.{◌≡◌, true, false, IfOk, IfSome, OnErr};
 ghost use Rattle.std.proofs.Common.{sym, true≢false};
 ghost use Rattle.gate_base.specs.Causes.{Rose};
+ghost use Rattle.swift_calls.specs.Bodies.{etag_of};
+ghost use Rattle.swift_calls.specs.Step.{IsMoment};
 ghost use Rattle.swift_store.specs.Shelf.{CountsStoreFaults};
 ghost use Rattle.swift_store.specs.declared.faults.StoreFault.TheVariants as fault;
+ghost use Rattle.object_rows.specs.Rows.{HasRow};
 ghost use Rattle.kept_store.specs.Kept.{CountsFault, kept_model};
 
 use crate::statements;
@@ -222,6 +225,34 @@ impl<S: Alter + Drop> KeptShelf<S> {
         )
     }
 
+    fn put_object(
+        &mut self,
+        container: &[u8],
+        object: &Stored,
+        etag: Bytes,
+    ) -> Result<(), StoreFault>
+        requires row { HasRow object.now }
+        requires etag { etag ≡ etag_of object.now.content }
+        ensures { CountsStoreFaults self.old.faults self.new.faults result }
+    {
+        let row = row_with_etag(self.alloc, object, etag)?;
+        self.put_row(container, object.name.as_slice(), &row)
+    }
+
+    /// A row whose kind or size no column takes is Failed.
+    fn put_row(&mut self, container: &[u8], name: &[u8], row: &Row) -> Result<(), StoreFault>
+        ensures { CountsStoreFaults self.old.faults self.new.faults result }
+    {
+        let Some(kind) = signed(row.kind) else {
+            return Err(self.fail());
+        };
+        let Some(size) = signed(row.size) else {
+            return Err(self.fail());
+        };
+        let _ = self.rows_put(container, name, kind, size, row)?;
+        Ok(())
+    }
+
     /// The row of an object that may list segments: none of one that has a body of its own.
     fn row_of_list(&mut self, container: &[u8], name: &[u8]) -> Result<Option<Row>, StoreFault>
         ensures { CountsStoreFaults self.old.faults self.new.faults result }
@@ -340,6 +371,42 @@ fn append_range(content: &Content, from: u64, end: u64, out: &mut Bytes) -> Resu
 
 const NO_MEMORY: Error = Error::SqliteFailure(ErrorCode::OutOfMemory);
 
+/// A column has what no call put there.
+const UNREAD: Error = Error::SqliteFailure(ErrorCode::DatabaseCorrupt);
+
+/// The read list and the creation time of a container that a row tells.
+fn container_in(row: &sqlite::Row) -> Result<(ReadList, Option<u64>), Error>
+    ensures { IfOk result (λ told. IfSome told.1 IsMoment) }
+{
+    let readers = readers_in(row)?;
+    let created = created_in(row)?;
+    Ok((readers, created))
+}
+
+fn readers_in(row: &sqlite::Row) -> Result<ReadList, Error> {
+    let readers: u64 = row.get(0)?;
+    match readers {
+        0 => Ok(ReadList::Nobody),
+        1 => Ok(ReadList::Everybody),
+        _ => Err(UNREAD),
+    }
+}
+
+fn created_in(row: &sqlite::Row) -> Result<Option<u64>, Error>
+    ensures { IfOk result (λ created. IfSome created IsMoment) }
+{
+    let created: Option<u64> = row.get(1)?;
+    match created {
+        Some(moment) => {
+            if moment >= MOMENT_LIMIT {
+                return Err(UNREAD);
+            }
+            Ok(created)
+        }
+        None => Ok(None),
+    }
+}
+
 /// The names of containers that rows tell.
 fn names_in(alloc: Global, rows: &[sqlite::Row]) -> Result<List<Bytes>, Error> {
     let mut names = List::new(alloc);
@@ -391,7 +458,7 @@ fn item_in(row: &sqlite::Row) -> Result<NameItem, Error> {
 fn head_in(alloc: Global, row: &sqlite::Row) -> Result<StoredHead, Error> {
     let kind: u64 = row.get(0)?;
     if kind > LIST {
-        return Err(Error::SqliteFailure(ErrorCode::DatabaseCorrupt));
+        return Err(UNREAD);
     }
     let meta: Vec<u8> = row.get(2)?;
     let Ok(meta) = pieces_of(alloc, &meta) else {
@@ -454,23 +521,9 @@ impl<S: Alter + Drop> Shelf for KeptShelf<S> {
         let Some(row) = self.row(statements::CONTAINER, params![name])? else {
             return Ok(None);
         };
-        let readers: u64 = match row.get(0) {
-            Ok(readers) => readers,
-            Err(error) => return Err(self.refused(error)),
-        };
-        let created: Option<u64> = match row.get(1) {
-            Ok(created) => created,
-            Err(error) => return Err(self.refused(error)),
-        };
-        if let Some(moment) = created {
-            if moment >= MOMENT_LIMIT {
-                return Err(self.fail());
-            }
-        }
-        match readers {
-            0 => Ok(Some((ReadList::Nobody, created))),
-            1 => Ok(Some((ReadList::Everybody, created))),
-            _ => Err(self.fail()),
+        match container_in(&row) {
+            Ok(told) => Ok(Some(told)),
+            Err(error) => Err(self.refused(error)),
         }
     }
 
@@ -560,15 +613,7 @@ impl<S: Alter + Drop> Shelf for KeptShelf<S> {
     }
 
     fn put(&mut self, container: &[u8], object: Stored, etag: Bytes) -> Result<(), StoreFault> {
-        let row = row_with_etag(self.alloc, &object, etag)?;
-        let Some(kind) = signed(row.kind) else {
-            return Err(self.fail());
-        };
-        let Some(size) = signed(row.size) else {
-            return Err(self.fail());
-        };
-        let _ = self.rows_put(container, object.name.as_slice(), kind, size, &row)?;
-        Ok(())
+        self.put_object(container, &object, etag)
     }
 
     fn remove(&mut self, container: &[u8], name: &[u8]) -> Result<bool, StoreFault> {
