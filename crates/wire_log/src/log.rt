@@ -1,5 +1,6 @@
 //! Where the lines of a log go, and the time.
 
+use crate::moment::moment_text;
 use gate_base::{Bytes, Memory, Sink};
 use std::alloc::Global;
 use std::time::{Clock, Duration};
@@ -21,6 +22,14 @@ impl<K: Sink, R: Clock> Log<K, R> {
             alloc,
             sink,
             is_on,
+        }
+    }
+
+    /// Writes a line of a text alone: the time, a space, and the text.
+    pub fn say(&mut self, text: &[u8]) {
+        if self.is_on {
+            let line = said_log_line(self.alloc, self.moment(), text);
+            self.put(line);
         }
     }
 
@@ -54,6 +63,14 @@ impl<K: Sink, R: Clock> Log<K, R> {
             let _ = self.sink.put(line.as_slice());
         }
     }
+}
+
+fn said_log_line(alloc: Global, moment: u64, text: &[u8]) -> Result<Bytes, Memory> {
+    let mut line = Bytes::from_slice(alloc, &moment_text(moment))?;
+    line.append(b" ")?;
+    line.append(text)?;
+    line.append(b"\n")?;
+    Ok(line)
 }
 
 fn milliseconds(time: Duration) -> u64 {
