@@ -11,8 +11,9 @@ use gate_base::{CALL_LIMIT, Counted, Failed, Line, NoCount};
 use std::alloc::Global;
 use std::io;
 use std::io::ErrorKind;
-use std::net::Net;
+use std::net::{Net, SocketAddr};
 use std::time::{Clock, Duration};
+use wire_log::Peers;
 
 /// Connections that a listener accepts, side by side in one thread. All who wait are accepted, up to 900; the others stay in the
 /// listener's queue until one of those leaves, or has been idle for a second and gives its place away.
@@ -114,6 +115,12 @@ impl<R: Net + Clock + Drop> TcpLine<R> {
     {
         self.next_faults = self.next_faults.saturating_add(1);
         Failed
+    }
+}
+
+impl<R: Net + Clock + Drop> Peers for TcpLine<R> {
+    fn peer(&self) -> Option<SocketAddr> {
+        self.crowd.peer()
     }
 }
 
