@@ -83,21 +83,33 @@ fn comes<S: Read>(rt: &impl Abort, stream: &mut S, bytes: &[u8]) {
     assert!(rt; &*buf == bytes);
 }
 
-/// Asserts that a line of the log comes that has these bytes behind its time.
+/// How a line goes on behind its milliseconds, up to the port of its client; and its end, since no key is named.
+const PEER: &[u8] = b"127.0.0.1:";
+
+const NO_KEY: &[u8] = b"-\n";
+
+/// Asserts that a line of the log comes that has these bytes behind its time, then milliseconds and the client.
 fn is_logged<S: Read>(rt: &impl Abort, log: &mut S, bytes: &[u8]) {
     let mut time = [0; TIME];
     log.read_exact(&mut time).expect(rt, "a time");
     comes(rt, log, bytes);
+    number_comes(rt, log);
+    comes(rt, log, PEER);
+    number_comes(rt, log);
+    comes(rt, log, NO_KEY);
+}
+
+/// Asserts that digits come, and a space.
+fn number_comes<S: Read>(rt: &impl Abort, log: &mut S) {
     let mut byte = [0; 1];
     for _digit in 0..10 {
-        log.read_exact(&mut byte)
-            .expect(rt, "milliseconds and the end");
-        if byte == *b"\n" {
+        log.read_exact(&mut byte).expect(rt, "a number and a space");
+        if byte == *b" " {
             return;
         }
         assert!(rt; byte[0].is_ascii_digit());
     }
-    panic!(rt; "the line doesn't end");
+    panic!(rt; "the number doesn't end");
 }
 
 /// A log that is written to a stream, and the other end of that.

@@ -182,7 +182,8 @@ impl<C: Counted + LastCall, N: Line<C> + Peers, K: Sink, R: Clock> Line<C> for L
         self.end_reply();
         let result = self.line.next();
         if let Ok(true) = result {
-            self.note_next(self.line.peer());
+            let peer = self.line.peer();
+            self.note_next(peer);
         }
         result
     }
