@@ -5,9 +5,9 @@ use crate::loopback::{begin, client, gets, hears, listen};
 use gate_base::{Failed, Line, NoCount, Sink};
 use sockets::TcpLine;
 use std::io::{Read, Write};
-use std::net::{Net, OpenListener, TcpStream};
+use std::net::{Net, OpenListener, SocketAddr, TcpStream};
 use std::process::Abort;
-use wire_log::{Log, LoggedLine};
+use wire_log::{Log, LoggedLine, Peers};
 
 const ASKED: &[u8] = b"GET /photos/a HTTP/1.1\r\nHost: h\r\n\r\n";
 
@@ -39,6 +39,16 @@ const AHEAD: usize = 1_048_576;
 
 /// A limit of time in seconds that the test doesn't come to.
 const LONG: u64 = 30;
+
+/// Asks a line of sockets for its client.
+#[derive(Clone, Copy)]
+struct SocketPeers;
+
+impl Peers<TcpLine<HostRuntime>> for SocketPeers {
+    fn peer(&self, line: &TcpLine<HostRuntime>) -> Option<SocketAddr> {
+        line.peer()
+    }
+}
 
 /// A sink whose other end is read by the test.
 #[derive(Drop)]
@@ -128,7 +138,7 @@ fn a_reply_in_pieces_is_one(rt: HostRuntime) {
     let line = made.expect(&rt, "a line");
     let (sink, mut log) = open_log(&rt);
     let own = rt.clone().expect(&rt, "a handle");
-    let mut line = LoggedLine::new(line, Log::new(own, rt.alloc(), sink, true));
+    let mut line = LoggedLine::new(line, Log::new(own, rt.alloc(), sink, true), SocketPeers);
     let mut client = client(&rt, place, ASKED);
     serve(&rt, &mut line, &mut client);
     drop(line);

@@ -30,11 +30,12 @@ use sigv4::Keys;
 use sockets::TcpLine;
 use std::fs;
 use std::io::ErrorKind;
+use std::net::SocketAddr;
 use std::process::ExitCode;
 use swift_calls::Swift;
 use swift_client::{SwiftClient, TcpLink, over_tcp};
 use swift_requests::{Place, is_place};
-use wire_log::{Log, LoggedLine, LoggedStore};
+use wire_log::{Log, LoggedLine, LoggedStore, Peers};
 
 /// The exit status where memory ran out before the run began.
 const MEMORY: u8 = 5;
@@ -67,7 +68,17 @@ const USUAL_SILENCE: u64 = 300;
 const LONGEST: u64 = 86_400;
 
 /// The clients, with a log of their replies on standard error.
-type Clients = LoggedLine<TcpLine<HostRuntime>, StdSink, HostRuntime>;
+type Clients = LoggedLine<TcpLine<HostRuntime>, StdSink, HostRuntime, SocketPeers>;
+
+/// Asks a line of sockets for its client.
+#[derive(Clone, Copy)]
+struct SocketPeers;
+
+impl Peers<TcpLine<HostRuntime>> for SocketPeers {
+    fn peer(&self, line: &TcpLine<HostRuntime>) -> Option<SocketAddr> {
+        line.peer()
+    }
+}
 
 /// The Swift store, with a log of its failures on standard error.
 type Store = LoggedStore<SwiftClient<TcpLink<HostRuntime>>, StdSink, HostRuntime>;
@@ -236,7 +247,7 @@ fn clients(rt: &HostRuntime) -> Result<Clients, SetupFault> {
     let ahead = ahead(rt)?;
     let log = log(rt)?;
     let line = tcp_line(rt, limit, ahead)?;
-    Ok(LoggedLine::new(line, log))
+    Ok(LoggedLine::new(line, log, SocketPeers))
 }
 
 fn tcp_line(

@@ -13,7 +13,6 @@ use std::io;
 use std::io::ErrorKind;
 use std::net::{Net, SocketAddr};
 use std::time::{Clock, Duration};
-use wire_log::Peers;
 
 /// Connections that a listener accepts, side by side in one thread. All who wait are accepted, up to 900; the others stay in the
 /// listener's queue until one of those leaves, or has been idle for a second and gives its place away.
@@ -98,6 +97,11 @@ impl<R: Net + Clock + Drop> TcpLine<R> {
         self.crowd.finish()
     }
 
+    /// The address of the client whose connection is open.
+    pub fn peer(&self) -> Option<SocketAddr> {
+        self.crowd.peer()
+    }
+
     fn fail(&mut self) -> Failed
         ensures faults { Rose (self.old.other_faults + self.old.next_faults)
             (self.new.other_faults + self.new.next_faults) }
@@ -115,12 +119,6 @@ impl<R: Net + Clock + Drop> TcpLine<R> {
     {
         self.next_faults = self.next_faults.saturating_add(1);
         Failed
-    }
-}
-
-impl<R: Net + Clock + Drop> Peers for TcpLine<R> {
-    fn peer(&self) -> Option<SocketAddr> {
-        self.crowd.peer()
     }
 }
 

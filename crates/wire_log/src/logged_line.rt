@@ -16,8 +16,9 @@ use std::time::Clock;
 /// asked for another connection, but for interim replies before it. Its line of the log is written then, and behind it for two statuses a
 /// second one: for 501 what of the request may be meant, for 500 the last call of the store.
 #[derive(Drop)]
-pub struct LoggedLine<N, K, R> {
+pub struct LoggedLine<N, K, R, P> {
     line: N,
+    peers: P,
     log: Log<K, R>,
     asked: Asked,
     /// The number of the connection at hand, from 1.
@@ -34,15 +35,16 @@ pub struct LoggedLine<N, K, R> {
     peer: Option<SocketAddr>,
 }
 
-impl<N, K: Sink, R: Clock> LoggedLine<N, K, R> {
-    /// The line, with its replies logged there.
-    pub fn new(line: N, log: Log<K, R>) -> LoggedLine<N, K, R>
+impl<N, K: Sink, R: Clock, P> LoggedLine<N, K, R, P> {
+    /// The line, with its replies logged there, and its clients as those tell them.
+    pub fn new(line: N, log: Log<K, R>, peers: P) -> LoggedLine<N, K, R, P>
         ensures { result.line ≡ line }
     {
         let asked = Asked::new(log.alloc());
         let last = Bytes::new(log.alloc());
         LoggedLine {
             line,
+            peers,
             log,
             asked,
             connection: 0,
@@ -162,7 +164,7 @@ impl<N, K: Sink, R: Clock> LoggedLine<N, K, R> {
     }
 }
 
-impl<N: Drop, K: Sink + Drop, R: Clock + Drop> LoggedLine<N, K, R> {
+impl<N: Drop, K: Sink + Drop, R: Clock + Drop, P: Drop> LoggedLine<N, K, R, P> {
     /// The line itself. The reply at hand is whole.
     pub fn into_line(self) -> N
         ensures { result ≡ self.line }
@@ -173,7 +175,8 @@ impl<N: Drop, K: Sink + Drop, R: Clock + Drop> LoggedLine<N, K, R> {
     }
 }
 
-impl<C: Counted + LastCall, N: Line<C> + Peers, K: Sink, R: Clock> Line<C> for LoggedLine<N, K, R> {
+impl<C: Counted + LastCall, N: Line<C>, K: Sink, R: Clock, P: Peers<N>> Line<C>
+    for LoggedLine<N, K, R, P> {
     ghost model = { λ logged. N.model logged.line };
 
     ghost is_line = { λ logged. N.is_line logged.line };
@@ -182,7 +185,7 @@ impl<C: Counted + LastCall, N: Line<C> + Peers, K: Sink, R: Clock> Line<C> for L
         self.end_reply();
         let result = self.line.next();
         if let Ok(true) = result {
-            let peer = self.line.peer();
+            let peer = self.peers.peer(&self.line);
             self.note_next(peer);
         }
         result

@@ -2,8 +2,8 @@
 
 use std::net::SocketAddr;
 
-/// A line that knows who is at the other end of its connection.
-pub trait Peers {
+/// What can tell of such a line who is at the other end of its connection. It is apart from the line, so that a line needs no log.
+pub trait Peers<N> {
     /// The address of the client of the connection that is open. None where there is none, or it isn't known.
-    fn peer(&self) -> Option<SocketAddr>;
+    fn peer(&self, line: &N) -> Option<SocketAddr>;
 }
