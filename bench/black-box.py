@@ -35,7 +35,7 @@ import time
 from urllib.parse import quote
 
 sys.dont_write_bytecode = True
-from scripted_swift import ACCOUNT, TOKEN, Segments, Store, answer, cut_answer, http, lose_answer, lose_request, ordinary, ordinary_and_closed, plain, raw, silent, unasked
+from scripted_swift import ACCOUNT, INFO, TOKEN, Segments, Store, answer, cut_answer, http, lose_answer, lose_request, ordinary, ordinary_and_closed, plain, raw, silent, unasked
 
 # How the line serves its clients: "in turn", one connection at a time, or "side by side". A group that is marked with one of them
 # is left out under the other; a group without a mark holds for both.
@@ -60,6 +60,16 @@ KEYS = os.path.join(ROOT, "examples/keys.txt")
 USAGE = b"usage: s3gate session|serve|recover|sweep|check|sign|trial|presign\n"
 SETUP = b"s3gate: setup\n"
 BUILT = b"s3gate: built are session, serve, recover, sign and presign\n"
+OPTIONS = {"session": "; it has --region, --least-part\n", "serve": "; it has --connections, --region, --least-part\n", "recover": "; it has none\n", "sign": "; it has --key, --region\n", "presign": "; it has --key, --region, --expires\n"}
+
+
+def not_taken(command, what):
+    """The second line for words of a command that are refused."""
+    return f"s3gate: {command} {what}{OPTIONS[command]}".encode()
+
+
+ALONE = "takes options alone"
+FORM = "lacks an option or a value, or has an option twice or a value of another form"
 
 # The calls that the first operation of a run makes before its own, by which the store is found to be settled.
 SETTLING = 2
@@ -157,7 +167,7 @@ class Gate(Program):
     def __init__(self, store, connections=1000000, place=None, words=(), **variables):
         self.place = place or PLACES.take()
         usual = {"S3GATE_KEYS": KEYS, "S3GATE_LISTEN": "%s:%d" % self.place, "S3GATE_STORE": store, "S3GATE_ACCOUNT": ACCOUNT, "S3GATE_TOKEN": TOKEN, "S3GATE_LOG": "off"}
-        super().__init__([S3GATE, "serve", "--connections", str(connections), *words], {**usual, **variables})
+        super().__init__([S3GATE, "serve", "--connections", str(connections), *words], {name: text for name, text in {**usual, **variables}.items() if text is not None})
 
     def client(self, *requests):
         return Client(self, *requests)
@@ -381,15 +391,19 @@ def words_and_environment_of_s3gate(check):
     place = "%s:%d" % PLACES.take()
     usual = {"S3GATE_LISTEN": place, "S3GATE_STORE": NOWHERE, "S3GATE_ACCOUNT": ACCOUNT, "S3GATE_TOKEN": TOKEN}
     for words in (["photos"], ["serve", "photos"], ["serve", "--connections", "0"], ["serve", "--connections", "1000000001"], ["serve", "--least-part", "0"], ["serve", "--least-part", "16777217"], ["serve", "--region", ""], ["serve", "--region", "US"]):
-        output, report = (b"", USAGE + BUILT) if words[0] == "serve" else (USAGE, BUILT)
+        output, report = (b"", USAGE + not_taken("serve", FORM if words[1:2] != ["photos"] else ALONE)) if words[0] == "serve" else (USAGE, BUILT)
         check(f"the words {' '.join(words)!r}", (2, output, report), ran(S3GATE, words, **usual))
     check("no words", (2, USAGE, BUILT), ran(S3GATE, []))
-    check("another word for a session", (2, b"", USAGE + BUILT), ran(S3GATE, ["session", "photos"]))
+    check("another word for a session", (2, b"", USAGE + not_taken("session", ALONE)), ran(S3GATE, ["session", "photos"]))
+    for words, what in ((["--conections", "1"], "has no option --conections"), (["--region", "eu", "--port=80"], "has no option --port"), (["-v"], "has no option -v"), (["--region"], FORM), (["--region=a", "--region=b"], FORM), (["--connections", "--token"], FORM), (["--\x01"], ALONE)):
+        check(f"serve {' '.join(words)!r}", (2, b"", USAGE + not_taken("serve", what)), ran(S3GATE, ["serve", *words], **usual))
+    for command, words in (("sign", ["--region", "eu"]), ("presign", ["--key", "a"])):
+        check(f"{command} without an option", (2, USAGE, not_taken(command, FORM)), ran(S3GATE, [command, *words]))
     for words in (["--help"], ["-h"], ["--version"], ["help"], ["sweep"]):
         check(f"the word {words[0]!r}", (2, USAGE, BUILT), ran(S3GATE, words))
-    for words in (["recover", "photos"], ["recover", "--region", "us-east-1"], ["recover", "--help"]):
-        check(f"the words {' '.join(words)!r}", (2, USAGE, BUILT), ran(S3GATE, words, **usual))
-    check("--help of a session", (2, b"", USAGE + BUILT), ran(S3GATE, ["session", "--help"]))
+    for words, what in ((["recover", "photos"], ALONE), (["recover", "--region", "us-east-1"], "has no option --region"), (["recover", "--help"], "has no option --help")):
+        check(f"the words {' '.join(words)!r}", (2, USAGE, not_taken("recover", what)), ran(S3GATE, words, **usual))
+    check("--help of a session", (2, b"", USAGE + not_taken("session", "has no option --help")), ran(S3GATE, ["session", "--help"]))
     check("a session of nothing, with no environment", (0, b"", b""), ran(S3GATE, ["session"]))
     for name in usual:
         given = {it: text for it, text in usual.items() if it != name}
@@ -936,7 +950,11 @@ def swift(method, target, headers=(), body=b"", token=TOKEN):
 
 # The log.
 
-LOGGED = re.compile(rb"(\d{4}-\d\d-\d\dT\d\d:\d\d:\d\d\.\d{3}Z) (.*) (\d+)")
+MOMENT = rb"(\d{4}-\d\d-\d\dT\d\d:\d\d:\d\d\.\d{3}Z) "
+LOGGED = re.compile(MOMENT + rb"(.*) (\d+) (127\.0\.0\.1:\d+) (-|[0-9A-Za-z]{1,128})")
+# The second line for a reply, and the first and the last ones of a run.
+SECOND = re.compile(MOMENT + rb"(\d+ (?:not implemented|inconsistent):.*)")
+SAID = re.compile(MOMENT + rb"(s3gate(?: \d+\.\d+\.\d+)?: .*)")
 SIGNATURE = "0123456789abcdef" * 4
 PRESIGNED = "X-Amz-Algorithm=AWS4-HMAC-SHA256&X-Amz-Credential=KEY%2F20261128%2Fus-east-1%2Fs3%2Faws4_request&X-Amz-Date=20261128T000000Z&X-Amz-Expires=60&X-Amz-SignedHeaders=host&X-Amz-Signature="
 
@@ -974,15 +992,23 @@ KINDS = [
 ]
 
 
-def log_of(report):
-    """The lines of the log: what stands between the time and the milliseconds. Each time is that of now."""
+def log_of(report, who=None):
+    """The lines of the log for replies: what stands between the time and the milliseconds, or what `who` makes of all. Each time is
+    that of now. First and last lines of the run and second lines of replies are left out."""
     found, now = [], datetime.datetime.now(datetime.timezone.utc)
     for line in report.splitlines():
+        if SECOND.fullmatch(line) or SAID.fullmatch(line):
+            continue
         it = LOGGED.fullmatch(line)
         time_ = datetime.datetime.strptime(it[1].decode(), "%Y-%m-%dT%H:%M:%S.%fZ").replace(tzinfo=datetime.timezone.utc)
         assert abs((now - time_).total_seconds()) < 60 and int(it[3]) < 60000, line
-        found.append(it[2].decode())
+        found.append(who(it) if who else it[2].decode())
     return found
+
+
+def said_in(report, pattern):
+    """What stands behind the time in the log's lines of that kind."""
+    return [it[2].decode() for line in report.splitlines() if (it := pattern.fullmatch(line))]
 
 
 def in_log(number, shown, reply, calls):
@@ -1102,6 +1128,171 @@ def a_log_that_cannot_be_written(check):
         check("and replies once its reader has gone", ["abc", "abc"], client.replies(2))
 
 
+KEY = sign.first_key()[0]
+QUERY_KEY = "X-Amz-Algorithm=AWS4-HMAC-SHA256&X-Amz-Credential=%s&X-Amz-Date=20261128T000000Z&X-Amz-Expires=60&X-Amz-SignedHeaders=host&X-Amz-Signature=" + SIGNATURE
+
+# What is sent, and the id of the key that the log's line ends with.
+CLAIMS = [
+    (request("GET", "/", close=True), KEY),
+    (request("GET", "/photos/a", owner=False, close=True), "-"),
+    (request("GET", "/photos/a", [("Authorization", "AWS4-HMAC-SHA256 SignedHeaders=host,Credential=OTHER/20261128/us-east-1/s3/aws4_request, Signature=" + SIGNATURE)], owner=False, close=True), "OTHER"),
+    (request("GET", "/photos/a", [("Authorization", "AWS4-HMAC-SHA256 Credential=OTHER, Signature=" + SIGNATURE)], owner=False, close=True), "-"),
+    (request("GET", "/photos/a", [("Authorization", "AWS4-HMAC-SHA256 Credential=a\x01b/c, Signature=" + SIGNATURE)], owner=False, close=True), "-"),
+    (request("GET", "/photos/a", [("Authorization", "AWS4-HMAC-SHA256 Credential=" + "k" * 129 + "/c, Signature=" + SIGNATURE)], owner=False, close=True), "-"),
+    (request("GET", "/photos/a", [("Authorization", "AWS OTHER:secret/secret")], owner=False, close=True), "-"),
+    (request("GET", "/photos/a?" + QUERY_KEY % "THIRD%2F20261128%2Fus-east-1%2Fs3%2Faws4_request", owner=False, close=True), "THIRD"),
+    (request("GET", "/photos/a?" + QUERY_KEY % "THIRD", owner=False, close=True), "-"),
+    (request("GET", "/photos/a?AWSAccessKeyId=OTHER&Expires=1&Signature=secret%3D", owner=False, close=True), "-"),
+]
+
+
+@group()
+def the_log_says_who_asked(check):
+    wanted = []
+    with Store(account=account()) as store, Gate(store.text, len(CLAIMS), S3GATE_LOG="on") as gate:
+        for asked, key in CLAIMS:
+            with gate.client(asked) as client:
+                client.rest()
+                wanted.append("%s:%d %s" % (*client.stream.getsockname(), key))
+        status, report = gate.ended()
+    told = log_of(report, lambda it: f"{it[4].decode()} {it[5].decode()}")
+    for at, (asked, who) in enumerate(zip(CLAIMS, wanted, strict=True)):
+        check(f"who sent {asked[0].splitlines()[1][:60]!r} {at}", who, told[at] if at < len(told) else None)
+    check("and no secret", [], [it for it in (b"secret", SIGNATURE.encode()) if it in report])
+
+
+# What is sent, and what the log's second line says of its 501; none where the reply is another.
+UNKNOWN = [
+    (request("GET", "/photos?tagging", close=True), "not implemented: ?tagging"),
+    (request("GET", "/photos?a%01b=secret&versions", close=True), "not implemented: ?a%01b ?versions"),
+    (request("PUT", "/photos/k", [("x-amz-tagging", "secret=1")], b"x", close=True), "not implemented: x-amz-tagging"),
+    (request("PUT", "/photos/k", [("If-None-Match", "*"), ("X-Amz-Server-Side-Encryption", "AES256")], b"x", close=True), "not implemented: If-None-Match X-Amz-Server-Side-Encryption"),
+    (request("PUT", "/photos/k", [("Content-Encoding", "gzip,aws-chunked")], b"x", close=True), "not implemented: Content-Encoding"),
+    (request("PUT", "/photos/k", [("x-amz-copy-source", "/photos/a"), ("x-amz-copy-source-if-match", "secret")], close=True), "not implemented: x-amz-copy-source-if-match"),
+    (request("GET", "/photos/a", [("If-Match", "*")], close=True), None),
+    (request("PUT", "/photos/k", [("x-amz-acl", "public-read-write")], b"x", close=True), "not implemented: x-amz-acl"),
+]
+
+
+@group()
+def the_log_says_what_is_not_implemented(check):
+    wanted = []
+    with Store(account=account()) as store, Gate(store.text, len(UNKNOWN), S3GATE_LOG="on") as gate:
+        for number, (asked, said) in enumerate(UNKNOWN, 1):
+            with gate.client(asked) as client:
+                status = client.rest()[9:12]
+            check(f"the status of request {number}", said is not None, status == b"501")
+            wanted += [f"{number} {said}"] if said else []
+        _, report = gate.ended()
+    check("second lines for 501 alone", wanted, said_in(report, SECOND))
+    check("without values", False, b"secret" in report)
+
+
+@group()
+def the_log_says_where_the_store_is_inconsistent(check):
+    files = {b"a": stored(b"abc", "text/plain", tagged=False)}
+    with Store(account={**account(), "old": (PUBLIC, files)}) as store, Gate(store.text, 4, S3GATE_LOG="on") as gate:
+        for words in (("HEAD", "/old/a"), ("GET", "/old/a"), ("GET", "/photos/a"), ("GET", "/old/none")):
+            check(f"the reply to {' '.join(words)}", {"/old/a": 500, "/photos/a": 200, "/old/none": 404}[words[1]], gate.ask(*words, owner=False).status)
+        _, report = gate.ended()
+    check("a second line for each 500", ["1 inconsistent: old a", "2 inconsistent: old a"], said_in(report, SECOND))
+
+
+def version():
+    """That with which CHANGES.md begins."""
+    with open(os.path.join(ROOT, "CHANGES.md"), encoding="utf-8") as file:
+        return re.search(r"^## (\S+),", file.read(), re.M)[1]
+
+
+@group()
+def the_log_begins_and_ends(check):
+    with Store(account=account()) as store:
+        variables = {"S3GATE_LOG": "on", "S3GATE_IDLE": "7", "S3GATE_AHEAD": "3", "S3GATE_STORE_TIMEOUT": "11"}
+        for given, keys, more in (
+            ({}, 1, []),
+            ({"S3GATE_KEYS": "/dev/null"}, 0, ["s3gate: no key in the file of S3GATE_KEYS: every request is anonymous"]),
+            ({"S3GATE_KEYS": None}, 0, ["s3gate: no key, since S3GATE_KEYS isn't set: every request is anonymous"]),
+        ):
+            usual = {**variables, **given}
+            with Gate(store.text, 1, words=["--region", "eu", "--least-part", "5"], **usual) as gate:
+                check("a request is answered", FOUND, both(gate.ask(*GET, owner=False)))
+                status, report = gate.ended()
+            first = "s3gate %s: listens at %s:%d, store %s, account %s, %d keys, region eu, connections 1, least part 5, idle 7 s, ahead 3 MiB, store timeout 11 s" % (version(), *gate.place, store.text, ACCOUNT, keys)
+            last = "s3gate: ended behind the last of its turns: --connections is 1"
+            check(f"the first and the last lines with {given}", (0, [first, *more, last]), (status, said_in(report, SAID)))
+            check("and no token", False, TOKEN.encode() in report)
+
+
+def without(info, *path):
+    """The same without what stands at that path."""
+    copy = json.loads(json.dumps(info))
+    inner = copy
+    for name in path[:-1]:
+        inner = inner[name]
+    del inner[path[-1]]
+    return copy
+
+
+def with_number(number, *path):
+    copy = json.loads(json.dumps(INFO))
+    copy[path[0]][path[1]] = number
+    return copy
+
+
+@group()
+def a_store_that_cannot_bear_the_gateway(check):
+    """Before anything is served."""
+    environment = {"S3GATE_LISTEN": "%s:%d" % PLACES.take(), "S3GATE_ACCOUNT": ACCOUNT, "S3GATE_TOKEN": TOKEN, "S3GATE_KEYS": KEYS, "S3GATE_LOG": "off"}
+    for title, info, why in (
+        ("no slo", {"/info": tell_other(without(INFO, "slo"))}, "S3GATE_STORE: the store has no slo in its pipeline"),
+        ("few segments", {"/info": tell_other(with_number(999, "slo", "max_manifest_segments"))}, "S3GATE_STORE: the store takes no manifest of so many segments: 1000"),
+        ("small objects", {"/info": tell_other(with_number(16777215, "swift", "max_file_size"))}, "S3GATE_STORE: the store takes no object of so many bytes: 16777216"),
+        ("a token that is refused", {"account": answer(401, length=0)}, "S3GATE_TOKEN: the store answered 401"),
+        ("a token of another account", {"account": answer(403, length=0)}, "S3GATE_TOKEN: the store answered 403"),
+        ("an account that isn't there", {"account": answer(404, length=0)}, "S3GATE_ACCOUNT: the store answered 404"),
+    ):
+        with Store(info=info, account=account()) as store:
+            for command in ("serve", "recover"):
+                check(f"{command} with {title}", (9, b"", SETUP + why.encode() + b"\n"), ran(S3GATE, [command], S3GATE_STORE=store.text, **environment))
+            check(f"refused words with {title}", (2, USAGE), ran(S3GATE, ["recover", "x"], S3GATE_STORE=store.text, **environment)[:2])
+            check("and no call was made", [], store.calls)
+    unknown = "s3gate: the store has no /info that can be read, so nothing is known of its limits"
+    for title, info, said in (
+        ("another number", {"/info": tell_other(with_number(1000, "slo", "max_manifest_segments"))}, []),
+        ("numbers that it doesn't tell", {"/info": tell_other({"slo": {}})}, []),
+        ("no /info", {"/info": answer(404)}, [unknown]),
+        ("an /info that is no JSON", {"/info": answer(200, body=b"{")}, [unknown]),
+    ):
+        with Store(info=info, account=account()) as store, Gate(store.text, 1, S3GATE_LOG="on") as gate:
+            check(f"a request with {title}", FOUND, both(gate.ask(*GET, owner=False)))
+            check(f"the log with {title}", said, said_in(gate.ended()[1], SAID)[1:-1])
+
+
+def tell_other(info):
+    """What a proxy tells of itself."""
+    return answer(200, [("Content-Type", "application/json")], json.dumps(info).encode())
+
+
+@group(line="side by side")
+def an_idle_client_gives_way_beside_the_one_that_is_served(check):
+    """The descriptors are all taken, and the client that has been idle the longest is the one that was served last."""
+    place = PLACES.take()
+    with Store(account=account()) as store:
+        variables = {"S3GATE_LISTEN": "%s:%d" % place, "S3GATE_STORE": store.text, "S3GATE_ACCOUNT": ACCOUNT, "S3GATE_TOKEN": TOKEN, "S3GATE_LOG": "off", "S3GATE_IDLE": str(LONG)}
+        with Program(["/bin/sh", "-c", 'ulimit -n 24; exec "$@"', "", S3GATE, "serve", "--connections", "1000"], variables) as gate, contextlib.ExitStack() as stack:
+            gate.place = place
+            first = stack.enter_context(Client(gate, request(*GET, owner=False)))
+            check("the first client is served", FOUND, both(first.reply()))
+            for _ in range(30):
+                stack.enter_context(Client(gate))
+            time.sleep(GRACE + 0.5)
+            last = stack.enter_context(Client(gate, request(*GET, owner=False)))
+            last.stream.settimeout(SOON)
+            check("and one that comes when no descriptor is left", FOUND, both(last.reply()))
+            first.send(request(*GET, owner=False))
+            check("and the first one is still there", FOUND, both(first.reply()))
+
+
 def of_store(report, place):
     """What the log says of the store."""
     assert all(re.match(rb"\d{4}-\d\d-\d\dT\d\d:\d\d:\d\d\.\d{3}Z ", line) for line in report.splitlines()), report
@@ -1120,7 +1311,7 @@ def the_log_of_the_store(check):
             with Store(account=account(), place=place):
                 client.send(ask, ask)
                 check("the store is back", ["abc", "abc"], client.replies(2))
-        check("a store that isn't there, and comes", ["refused", "well again"], of_store(gate.ended()[1], text))
+        check("a store that isn't there, and comes", ["no /info: refused", "refused", "well again"], of_store(gate.ended()[1], text))
     chunked = raw(http(200, [("Transfer-Encoding", "chunked")], b"0\r\n\r\n", length=False))
     causes = {1: answer(500), 2: answer(500), 3: answer(503), 4: answer(403), 5: lose_answer, 6: chunked, 7: answer(200)}
     with Store(causes, account=account()) as store, Gate(store.text, 1, S3GATE_LOG="on") as gate:
@@ -1129,14 +1320,14 @@ def the_log_of_the_store(check):
         wanted = ["spelled nothing: 500", "spelled nothing: 503", "answered 403", "closed before its answer was whole", "an answer without a known end", "spelled nothing: 200", "well again"]
         check("each cause once, as it comes", wanted, of_store(gate.ended()[1], store.text))
     for title, program, variables, why in (
-        ("another token", Swiftd(), {"S3GATE_TOKEN": "other"}, "answered 401"),
-        ("a host that can't be looked up", contextlib.nullcontext(), {"S3GATE_STORE": "nowhere.invalid:80"}, "cannot be looked up"),
-        ("a store that is silent", Store({1: silent}), {"S3GATE_STORE_TIMEOUT": str(SILENCE)}, f"timed out after {SILENCE} s"),
+        ("a host that can't be looked up", contextlib.nullcontext(), {"S3GATE_STORE": "nowhere.invalid:80"}, ["no /info: cannot be looked up", "cannot be looked up"]),
+        ("a store that is silent", Store({1: silent}), {"S3GATE_STORE_TIMEOUT": str(SILENCE)}, [f"timed out after {SILENCE} s"]),
+        ("a store that is silent from the start", Store({1: silent}, info={"/info": silent}), {"S3GATE_STORE_TIMEOUT": str(SILENCE)}, [f"no /info: timed out after {SILENCE} s", f"timed out after {SILENCE} s"]),
     ):
         with program as store, Gate(store.text if store else "", 1, S3GATE_LOG="on", **variables) as gate:
             with gate.client(request(*GET, owner=False, close=True)) as client:
                 client.rest()
-            check(f"the log with {title}", [why], of_store(gate.ended()[1], variables.get("S3GATE_STORE") or store.text))
+            check(f"the log with {title}", why, of_store(gate.ended()[1], variables.get("S3GATE_STORE") or store.text))
 
 
 @group()

@@ -5,6 +5,10 @@ Storage API v1 says. Only Python's own libraries are used.
     Store({2: lose_answer})             the answer of the second call is lost
     Store([answer(204), answer(404)])   these two answers, whatever is asked, and none to a further call
     Store(spell=quoted)                 answers are spelled by another function than `plain`
+    Store(info={"/info": answer(200)})  what is done to a question that a gateway asks before it serves
+
+Such a question, for `/info` or for the head of the account, is no call: it isn't counted, and neither is its connection. Without
+another word it is answered as a proxy does that has all that is asked for.
 """
 import contextlib
 import fcntl
@@ -42,6 +46,10 @@ class Call:
 
     def __str__(self):
         return f"{self.method} {self.target}"
+
+    def is_question(self):
+        """Whether it only asks whether the store is fit and has the account."""
+        return self.target == "/info" or (self.method == "HEAD" and self.container is None)
 
 
 def http(status, headers=(), body=b"", length=None):
@@ -81,6 +89,17 @@ def raw(*pieces, ends=False, pause=0):
 
 def ordinary(store, call, stream):
     stream.sendall(store.spell(call, *store.apply(call)))
+    return True
+
+
+# What a proxy tells of itself that has what is wanted.
+INFO = {"swift": {"version": "2.30.0", "max_file_size": 5368709122}, "slo": {"max_manifest_segments": 1000, "min_segment_size": 1}}
+
+
+def tell(_store, call, stream, info=INFO):
+    """What a proxy tells of itself, or that the account is there."""
+    body = json.dumps(info).encode()
+    stream.sendall(http(200, [("Content-Type", "application/json; charset=UTF-8")], body) if call.target == "/info" else http(204, [("X-Account-Container-Count", "0")], length=0))
     return True
 
 
@@ -139,8 +158,8 @@ def silent(store, call, stream):
 class Store:
     """The store serves until `close`, at a free place of its own unless one is given. `calls` are those that came, in their order."""
 
-    def __init__(self, script=None, spell=plain, account=None, place=("127.0.0.1", 0)):
-        self.script, self.spell = script or {}, spell
+    def __init__(self, script=None, spell=plain, account=None, place=("127.0.0.1", 0), info=None):
+        self.script, self.spell, self.info = script or {}, spell, info or {}
         self.account = {} if account is None else account
         self.calls, self.unread, self.connections = [], [], 0
         self.lock, self.over, self.said_more, self.streams = threading.Lock(), threading.Event(), threading.Event(), set()
@@ -192,8 +211,12 @@ class Store:
                     break
                 with self.lock:
                     call = Call(head, body, number)
-                    self.calls.append(call)
-                    act = self.act(len(self.calls))
+                    if call.is_question():
+                        self.connections -= 1
+                        act = self.info.get("/info" if call.target == "/info" else "account", tell)
+                    else:
+                        self.calls.append(call)
+                        act = self.act(len(self.calls))
                 if not act(self, call, stream):
                     break
         with self.lock:

@@ -4,7 +4,7 @@
 #   packaging/deb.sh [S3GATE SWIFTD [OUT]]
 #
 # The programs are crates/s3gate/out/s3gate and crates/swiftd/out/swiftd unless given, and the packages come to OUT, or else to
-# packaging/out. The version is that of packaging/version; DEBEMAIL is the maintainer's address and DEBFULLNAME the name, as Debian's
+# packaging/out. The version is that of crates/s3gate/src/version.rt; DEBEMAIL is the maintainer's address and DEBFULLNAME the name, as Debian's
 # own tools have them. It needs dpkg-deb and binutils, and no root. The same programs and texts make the same packages.
 set -euo pipefail
 fail() { echo "deb.sh: $*" >&2; exit 1; }
@@ -16,7 +16,7 @@ out="$(realpath -m "${3:-$here/packaging/out}")"
 for program in "$s3gate" "$swiftd"; do [ -r "$program" ] || fail "$program isn't there: build it, or name another"; done
 cd "$here"
 packaging/man.py --check
-version="$(cat packaging/version)"
+version="$(sed -n 's/.*VERSION: &\[u8\] = b"\(.*\)";/\1/p' crates/s3gate/src/version.rt)"
 day="$(sed -n "s/^## $version, //p" CHANGES.md)"
 epoch="$(date -u -d "$day" +%s)"
 maintainer="${DEBFULLNAME:-s3gate maintainers} <${DEBEMAIL:-s3gate@example.org}>"

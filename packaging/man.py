@@ -4,7 +4,7 @@ packaging/swiftd/swiftd.1.
 
   packaging/man.py            writes the pages
   packaging/man.py --check    says whether they are what it would write, and whether CHANGES.md begins with the version
-                              that packaging/version has
+                              that crates/s3gate/src/version.rt has
 
 A table is found by the row of its names, and a paragraph by its first words, so OPERATING may be ordered as its readers want. Where
 one isn't there any more, or a page lacks a variable that its program reads, nothing is written.
@@ -27,7 +27,7 @@ def read(path):
 
 def release():
     """The version, and the day that CHANGES.md gives it in its first heading."""
-    version = read("packaging/version").strip()
+    version = re.search(r'VERSION: &\[u8\] = b"(\S+)";', read("crates/s3gate/src/version.rt"))[1]
     heading = re.search(r"^## (\S+), (\d{4}-\d{2}-\d{2})$", read("CHANGES.md"), re.M)
     if not heading or heading[1] != version:
         fail(f"the first heading of CHANGES.md isn't `## {version}, YEAR-MONTH-DAY`")

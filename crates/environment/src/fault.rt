@@ -41,6 +41,13 @@ pub enum Why {
     /// It has more bytes than half of the machine's memory has.
     TooLarge,
     CannotOpen,
+    /// The store that it names can't bear the gateway, by its own word: no static large objects, or fewer segments in one, or fewer bytes in
+    /// an object, than this number.
+    NoSlo,
+    FewSegments(u64),
+    SmallObjects(u64),
+    /// The store answered with this status.
+    Answered(u64),
 }
 
 /// Why a program can't begin: memory ran out, or a variable or an option won't do.
@@ -79,6 +86,17 @@ impl Why {
         }
     }
 
+    /// The number that stands behind the text.
+    fn number(self) -> Option<u64> {
+        match self {
+            Why::NotNumber(number)
+            | Why::FewSegments(number)
+            | Why::SmallObjects(number)
+            | Why::Answered(number) => Some(number),
+            _ => None,
+        }
+    }
+
     fn text(self) -> &'static [u8] {
         match self {
             Why::Missing => b"missing",
@@ -104,6 +122,10 @@ impl Why {
             Why::DiskFull => b"no room on the disk",
             Why::TooLarge => b"larger than half of the machine's memory",
             Why::CannotOpen => b"cannot be opened and written",
+            Why::NoSlo => b"the store has no slo in its pipeline",
+            Why::FewSegments(_) => b"the store takes no manifest of so many segments: ",
+            Why::SmallObjects(_) => b"the store takes no object of so many bytes: ",
+            Why::Answered(_) => b"the store answered ",
         }
     }
 }
@@ -119,9 +141,9 @@ pub fn variable_fault_line(alloc: Global, name: &str, why: Why) -> Result<Bytes,
 fn append_variable_fault(line: &mut Bytes, why: Why) -> Result<(), Memory> {
     line.append(b": ")?;
     line.append(why.text())?;
-    if let Why::NotNumber(most) = why {
+    if let Some(number) = why.number() {
         let mut digits = Buffer::new();
-        return line.append(digits.format(most).as_bytes());
+        return line.append(digits.format(number).as_bytes());
     }
     Ok(())
 }

@@ -2,6 +2,7 @@
 //! docs/OPERATING.md.
 use gate_base::{Bytes, Memory};
 use std::alloc::Global;
+use std::net::SocketAddr;
 use wire_log::{
     Cause, Entry, append_request_for_log, log_entry_line, logged_cause_of_answer, moment_text,
 };
@@ -85,10 +86,19 @@ fn values_that_sign_are_hidden(rt: HostRuntime) {
             b"GET /a?X-Amz-Signature%3D=1&X-Amz-Signatur%65=..."
         )
     );
+    assert!(rt;
+        is_shown(
+            &rt,
+            b"GET /a?AWSAccessKeyId=KEY&Expires=60&Signature=ab%2Fc%3D&Signatures=1 HTTP/1.1",
+            b"GET /a?AWSAccessKeyId=KEY&Expires=60&Signature=...&Signatures=1"
+        )
+    );
 }
 
 #[test]
-fn an_entry_has_nine_fields(rt: HostRuntime) {
+fn an_entry_has_eleven_fields(rt: HostRuntime) {
+    let peer: Option<SocketAddr> = "192.0.2.7:51234".parse().ok();
+    assert!(rt; peer.is_some());
     let entry = Entry {
         moment: 1_795_869_296_789,
         connection: 17,
@@ -98,8 +108,11 @@ fn an_entry_has_nine_fields(rt: HostRuntime) {
         bytes: Some(1834),
         calls: 3,
         took: 12,
+        peer,
+        key: Some(b"AKIA1"),
     };
-    let wanted: &[u8] = b"2026-11-28T12:34:56.789Z 17 GET /photos/a 200 c0ffee 1834 3 12\n";
+    let wanted: &[u8] =
+        b"2026-11-28T12:34:56.789Z 17 GET /photos/a 200 c0ffee 1834 3 12 192.0.2.7:51234 AKIA1\n";
     let line = log_entry_line(rt.alloc(), &entry);
     assert!(rt; line.is_ok_and(|line| line.as_slice() == wanted));
     let unknown = Entry {
@@ -111,8 +124,10 @@ fn an_entry_has_nine_fields(rt: HostRuntime) {
         bytes: None,
         calls: 0,
         took: 0,
+        peer: None,
+        key: None,
     };
-    let wanted: &[u8] = b"1970-01-01T00:00:00.000Z 1 - - 503 - - 0 0\n";
+    let wanted: &[u8] = b"1970-01-01T00:00:00.000Z 1 - - 503 - - 0 0 - -\n";
     let line = log_entry_line(rt.alloc(), &unknown);
     assert!(rt; line.is_ok_and(|line| line.as_slice() == wanted));
 }

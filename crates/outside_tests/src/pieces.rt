@@ -5,9 +5,9 @@ use crate::loopback::{begin, client, gets, hears, listen};
 use gate_base::{Failed, Line, NoCount, Sink};
 use sockets::TcpLine;
 use std::io::{Read, Write};
-use std::net::{Net, OpenListener, TcpStream};
+use std::net::{Net, OpenListener, SocketAddr, TcpStream};
 use std::process::Abort;
-use wire_log::{Log, LoggedLine};
+use wire_log::{Log, LoggedLine, Peers};
 
 const ASKED: &[u8] = b"GET /photos/a HTTP/1.1\r\nHost: h\r\n\r\n";
 
@@ -39,6 +39,16 @@ const AHEAD: usize = 1_048_576;
 
 /// A limit of time in seconds that the test doesn't come to.
 const LONG: u64 = 30;
+
+/// Asks a line of sockets for its client.
+#[derive(Clone, Copy)]
+struct SocketPeers;
+
+impl Peers<TcpLine<HostRuntime>> for SocketPeers {
+    fn peer(&self, line: &TcpLine<HostRuntime>) -> Option<SocketAddr> {
+        line.peer()
+    }
+}
 
 /// A sink whose other end is read by the test.
 #[derive(Drop)]
@@ -83,21 +93,33 @@ fn comes<S: Read>(rt: &impl Abort, stream: &mut S, bytes: &[u8]) {
     assert!(rt; &*buf == bytes);
 }
 
-/// Asserts that a line of the log comes that has these bytes behind its time.
+/// How a line goes on behind its milliseconds, up to the port of its client; and its end, since no key is named.
+const PEER: &[u8] = b"127.0.0.1:";
+
+const NO_KEY: &[u8] = b"-\n";
+
+/// Asserts that a line of the log comes that has these bytes behind its time, then milliseconds and the client.
 fn is_logged<S: Read>(rt: &impl Abort, log: &mut S, bytes: &[u8]) {
     let mut time = [0; TIME];
     log.read_exact(&mut time).expect(rt, "a time");
     comes(rt, log, bytes);
+    number_comes(rt, log);
+    comes(rt, log, PEER);
+    number_comes(rt, log);
+    comes(rt, log, NO_KEY);
+}
+
+/// Asserts that digits come, and a space.
+fn number_comes<S: Read>(rt: &impl Abort, log: &mut S) {
     let mut byte = [0; 1];
     for _digit in 0..10 {
-        log.read_exact(&mut byte)
-            .expect(rt, "milliseconds and the end");
-        if byte == *b"\n" {
+        log.read_exact(&mut byte).expect(rt, "a number and a space");
+        if byte == *b" " {
             return;
         }
         assert!(rt; byte[0].is_ascii_digit());
     }
-    panic!(rt; "the line doesn't end");
+    panic!(rt; "the number doesn't end");
 }
 
 /// A log that is written to a stream, and the other end of that.
@@ -116,7 +138,7 @@ fn a_reply_in_pieces_is_one(rt: HostRuntime) {
     let line = made.expect(&rt, "a line");
     let (sink, mut log) = open_log(&rt);
     let own = rt.clone().expect(&rt, "a handle");
-    let mut line = LoggedLine::new(line, Log::new(own, rt.alloc(), sink, true));
+    let mut line = LoggedLine::new(line, Log::new(own, rt.alloc(), sink, true), SocketPeers);
     let mut client = client(&rt, place, ASKED);
     serve(&rt, &mut line, &mut client);
     drop(line);

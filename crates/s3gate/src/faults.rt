@@ -1,5 +1,6 @@
 //! What is said on standard error where a run can't begin, or is refused.
 
+use crate::refused::refused_words_line;
 use environment::{SetupFault, report_variable_fault};
 use gate_base::{Bytes, Memory};
 use gateway_cli::{WordsFault, read_words};
@@ -27,11 +28,14 @@ pub fn explain_setup_fault(rt: &HostRuntime, fault: SetupFault) -> u8 {
 pub fn explain_refusal(rt: &HostRuntime, words: &[String], keys: &str) {
     match read_words(rt.alloc(), words) {
         Ok(_) => explain_keys(rt, keys),
-        Err(WordsFault::Refused) => say_on_standard_error(
-            rt,
-            b"s3gate: built are session, serve, recover, sign and presign\n",
-        ),
+        Err(WordsFault::Refused) => explain_words(rt, words),
         Err(WordsFault::Memory) => {}
+    }
+}
+
+fn explain_words(rt: &HostRuntime, words: &[String]) {
+    if let Ok(line) = refused_words_line(rt.alloc(), words) {
+        say_on_standard_error(rt, line.as_slice());
     }
 }
 

@@ -9,24 +9,33 @@
 
 mod faults;
 mod input;
+mod probe;
+mod refused;
+mod start;
+mod version;
 
 use crate::faults::{explain_refusal, explain_setup_fault};
 use crate::input::InputLine;
+use crate::probe::probe_store;
+use crate::start::{ErrorLog, Limits, say_end, say_start};
 use environment::{
     SetupFault, Why, clone_environment_runtime, is_variable_on, listener_at_variable_place,
     number_in_variable, place_fault, required_variable, variable, words,
 };
 use gate_base::{Bytes, Copying, Line, RandomDraws, StdLine, StdSink, SystemClock};
+use gateway_cli::{Command, read_words};
 use gateway_cmd::run;
 use memory_swift::memory_store;
+use sigv4::Keys;
 use sockets::TcpLine;
 use std::fs;
 use std::io::ErrorKind;
+use std::net::SocketAddr;
 use std::process::ExitCode;
 use swift_calls::Swift;
 use swift_client::{SwiftClient, TcpLink, over_tcp};
 use swift_requests::{Place, is_place};
-use wire_log::{Log, LoggedLine, LoggedStore};
+use wire_log::{Log, LoggedLine, LoggedStore, Peers};
 
 /// The exit status where memory ran out before the run began.
 const MEMORY: u8 = 5;
@@ -59,7 +68,17 @@ const USUAL_SILENCE: u64 = 300;
 const LONGEST: u64 = 86_400;
 
 /// The clients, with a log of their replies on standard error.
-type Clients = LoggedLine<TcpLine<HostRuntime>, StdSink, HostRuntime>;
+type Clients = LoggedLine<TcpLine<HostRuntime>, StdSink, HostRuntime, SocketPeers>;
+
+/// Asks a line of sockets for its client.
+#[derive(Clone, Copy)]
+struct SocketPeers;
+
+impl Peers<TcpLine<HostRuntime>> for SocketPeers {
+    fn peer(&self, line: &TcpLine<HostRuntime>) -> Option<SocketAddr> {
+        line.peer()
+    }
+}
 
 /// The Swift store, with a log of its failures on standard error.
 type Store = LoggedStore<SwiftClient<TcpLink<HostRuntime>>, StdSink, HostRuntime>;
@@ -112,13 +131,47 @@ fn serve_on(
     keys: &str,
     line: &mut Clients,
 ) -> Result<u8, SetupFault> {
-    let mut store = swift_store(rt)?;
-    run_over(rt, words, keys, line, &mut store)
+    let limit = store_limit(rt)?;
+    let place = store_place(rt)?;
+    let command = accepted_command(rt, words, keys);
+    if let Some(command) = &command {
+        let mut log = log(rt)?;
+        say_start(rt, &mut log, command, keys, &place, limits(rt, limit)?)?;
+        probe_store(rt, &mut log, &place, limit)?;
+    }
+    let mut store = swift_store(rt, place, limit)?;
+    let status = run_over(rt, words, keys, line, &mut store)?;
+    if let (0, Some(command)) = (status, &command) {
+        say_end(rt, &mut log(rt)?, command);
+    }
+    Ok(status)
+}
+
+/// The numbers that the log's first line has.
+fn limits(rt: &HostRuntime, store: u64) -> Result<Limits, SetupFault> {
+    Ok(Limits {
+        idle: number_in_variable(rt, "S3GATE_IDLE", USUAL_IDLE, LONGEST)?,
+        ahead: number_in_variable(rt, "S3GATE_AHEAD", USUAL_AHEAD, MOST_AHEAD)?,
+        store,
+    })
+}
+
+/// What the words ask for, where neither they nor the key text are to be refused.
+fn accepted_command(rt: &HostRuntime, words: &[String], keys: &str) -> Option<Command> {
+    match Keys::read(rt.alloc(), keys.as_bytes()) {
+        Ok(_) => read_words(rt.alloc(), words).ok(),
+        Err(_) => None,
+    }
 }
 
 /// A run over the Swift store alone: it has a line, and reads nothing of it.
 fn recover(rt: &HostRuntime, words: &[String], keys: &str) -> Result<u8, SetupFault> {
-    let mut store = swift_store(rt)?;
+    let limit = store_limit(rt)?;
+    let place = store_place(rt)?;
+    if accepted_command(rt, words, keys).is_some() {
+        probe_store(rt, &mut log(rt)?, &place, limit)?;
+    }
+    let mut store = swift_store(rt, place, limit)?;
     let mut line = InputLine::new(clone_environment_runtime(rt)?);
     run_over(rt, words, keys, &mut line, &mut store)
 }
@@ -194,7 +247,7 @@ fn clients(rt: &HostRuntime) -> Result<Clients, SetupFault> {
     let ahead = ahead(rt)?;
     let log = log(rt)?;
     let line = tcp_line(rt, limit, ahead)?;
-    Ok(LoggedLine::new(line, log))
+    Ok(LoggedLine::new(line, log, SocketPeers))
 }
 
 fn tcp_line(
@@ -224,16 +277,19 @@ fn ahead(rt: &HostRuntime) -> Result<usize, SetupFault> {
 }
 
 /// A log on standard error, unless the environment ends it.
-fn log(rt: &HostRuntime) -> Result<Log<StdSink, HostRuntime>, SetupFault> {
+fn log(rt: &HostRuntime) -> Result<ErrorLog, SetupFault> {
     let is_on = is_variable_on(rt, "S3GATE_LOG")?;
     let sink = StdSink::error(clone_environment_runtime(rt)?);
     Ok(Log::new(clone_environment_runtime(rt)?, rt.alloc(), sink, is_on))
 }
 
-/// The Swift store that the environment names. The first call connects to it.
-fn swift_store(rt: &HostRuntime) -> Result<Store, SetupFault> {
-    let limit = number_in_variable(rt, "S3GATE_STORE_TIMEOUT", USUAL_SILENCE, LONGEST)?;
-    let place = store_place(rt)?;
+/// How many seconds the store may be silent.
+fn store_limit(rt: &HostRuntime) -> Result<u64, SetupFault> {
+    number_in_variable(rt, "S3GATE_STORE_TIMEOUT", USUAL_SILENCE, LONGEST)
+}
+
+/// The Swift store at that place. The first call connects to it.
+fn swift_store(rt: &HostRuntime, place: Place, limit: u64) -> Result<Store, SetupFault> {
     let name = place.host.copy()?;
     let log = log(rt)?;
     let store = store_at(rt, place, limit)?;

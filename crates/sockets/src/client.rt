@@ -5,7 +5,7 @@ use crate::front::{Front, HEAD_LIMIT, begins_no_head, find_front};
 use std::alloc::{AllocError, Global};
 use std::io;
 use std::io::{ErrorKind, Read, Write};
-use std::net::{OpenStream, Shutdown};
+use std::net::{OpenStream, Shutdown, SocketAddr};
 use std::time::Duration;
 
 /// The bytes that one read asks for.
@@ -71,6 +71,7 @@ pub(crate) enum Lack {
 #[derive(Drop)]
 pub(crate) struct Client<S> {
     stream: S,
+    pub(crate) peer: SocketAddr,
     phase: Phase,
     /// What came and was not given, from `given` on.
     came: Vec<u8>,
@@ -113,9 +114,10 @@ pub(crate) struct Client<S> {
 }
 
 impl<S: Read + Write + OpenStream + Drop> Client<S> {
-    pub(crate) fn new(alloc: Global, stream: S, now: Duration) -> Client<S> {
+    pub(crate) fn new(alloc: Global, stream: S, peer: SocketAddr, now: Duration) -> Client<S> {
         Client {
             stream,
+            peer,
             phase: Phase::Waits,
             came: Vec::new(alloc),
             given: 0,

@@ -8,7 +8,7 @@ use std::alloc::Global;
 use std::collections::VecDeque;
 use std::io;
 use std::io::ErrorKind;
-use std::net::{Net, OpenListener, OpenStream};
+use std::net::{Net, OpenListener, OpenStream, SocketAddr};
 use std::os::fd::AsRawFd;
 use std::time::{Clock, Duration};
 
@@ -144,6 +144,21 @@ impl<R: Net + Clock + Drop> Crowd<R> {
         match self.places.get(turn.place) {
             Some(client) => client.turn == turn.number && client.is_next(),
             None => false,
+        }
+    }
+
+    /// The address of the client that is served.
+    pub(crate) fn peer(&self) -> Option<SocketAddr> {
+        match self.open {
+            Some(place) => self.peer_at(place),
+            None => None,
+        }
+    }
+
+    fn peer_at(&self, place: usize) -> Option<SocketAddr> {
+        match self.places.get(place) {
+            Some(client) => Some(client.peer),
+            None => None,
         }
     }
 
@@ -510,9 +525,9 @@ impl<R: Net + Clock + Drop> Crowd<R> {
                 return self.rest();
             }
             match self.listener.accept() {
-                Ok((stream, _)) => {
+                Ok((stream, peer)) => {
                     self.losses = 0;
-                    let _ = self.welcome(stream);
+                    let _ = self.welcome(stream, peer);
                 }
                 Err(error) => {
                     if self.stops(error.kind()) {
@@ -550,14 +565,18 @@ impl<R: Net + Clock + Drop> Crowd<R> {
         self.places.has_room()
     }
 
+    /// The client that is served stays, also where it is idle.
     fn forget_idlest(&mut self) -> bool {
         let grace = Duration::from_millis(GRACE);
-        match self.places.idlest(self.now.saturating_sub(grace)) {
-            Some(place) if self.open != Some(place) => {
+        match self
+            .places
+            .idlest(self.now.saturating_sub(grace), self.open)
+        {
+            Some(place) => {
                 self.forget(place);
                 true
             }
-            _ => false,
+            None => false,
         }
     }
 
@@ -570,13 +589,13 @@ impl<R: Net + Clock + Drop> Crowd<R> {
     }
 
     /// A client that can't be watched is lost.
-    fn welcome(&mut self, stream: R::Stream) -> io::Result<()> {
+    fn welcome(&mut self, stream: R::Stream, peer: SocketAddr) -> io::Result<()> {
         stream.set_nonblocking(true)?;
         stream.set_nodelay(true)?;
         let source = stream.as_raw_fd();
         let place = self.places.take()?;
         self.places
-            .fill(place, Client::new(self.alloc, stream, self.now));
+            .fill(place, Client::new(self.alloc, stream, peer, self.now));
         if self.watch.add_stream(source, place).is_err() {
             self.places.empty(place);
             return Err(io::Error::from(ErrorKind::Other));

@@ -75,13 +75,14 @@ impl<S: Read + Write + OpenStream + Drop> Places<S> {
         self.slots.iter().all(|slot| slot.is_none())
     }
 
-    /// The place of the client that has been idle for the longest time, and since that moment at least.
-    pub(crate) fn idlest(&self, moment: Duration) -> Option<usize> {
+    /// The place of the client that has been idle for the longest time, and since that moment at least. The one at the place `served`
+    /// isn't asked: it may be idle too, and stays.
+    pub(crate) fn idlest(&self, moment: Duration, served: Option<usize>) -> Option<usize> {
         let mut found = None;
         let mut since = moment;
         for (place, slot) in self.slots.iter().enumerate() {
             if let Some(client) = slot {
-                if client.is_idle() && client.last() <= since {
+                if client.is_idle() && client.last() <= since && served != Some(place) {
                     since = client.last();
                     found = Some(place);
                 }

@@ -11,7 +11,7 @@ use gate_base::{CALL_LIMIT, Counted, Failed, Line, NoCount};
 use std::alloc::Global;
 use std::io;
 use std::io::ErrorKind;
-use std::net::Net;
+use std::net::{Net, SocketAddr};
 use std::time::{Clock, Duration};
 
 /// Connections that a listener accepts, side by side in one thread. All who wait are accepted, up to 900; the others stay in the
@@ -95,6 +95,11 @@ impl<R: Net + Clock + Drop> TcpLine<R> {
     /// The error is the system's, which can't wait for the clients. What was kept is lost then.
     pub fn finish(&mut self) -> io::Result<()> {
         self.crowd.finish()
+    }
+
+    /// The address of the client whose connection is open.
+    pub fn peer(&self) -> Option<SocketAddr> {
+        self.crowd.peer()
     }
 
     fn fail(&mut self) -> Failed

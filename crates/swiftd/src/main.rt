@@ -10,10 +10,11 @@ use gate_base::{Line, List, MemLine, NoCount, StdSink};
 use kept_store::{FileFault, FileShelf, close_file_shelf, open_file_shelf};
 use sockets::TcpLine;
 use std::io::ErrorKind;
+use std::net::SocketAddr;
 use std::process::ExitCode;
 use store_cmd::{run_store, shelf_file};
 use swift_store::{MapShelf, Shelf};
-use wire_log::{Log, LoggedLine};
+use wire_log::{Log, LoggedLine, Peers};
 
 /// The exit status where memory ran out before the run began.
 const MEMORY: u8 = 5;
@@ -40,7 +41,17 @@ const LISTEN: &str = "SWIFTD_LISTEN";
 const FILE: &str = "--file";
 
 /// The clients, with a log of their replies on standard error.
-type Clients = LoggedLine<TcpLine<HostRuntime>, StdSink, HostRuntime>;
+type Clients = LoggedLine<TcpLine<HostRuntime>, StdSink, HostRuntime, SocketPeers>;
+
+/// Asks a line of sockets for its client.
+#[derive(Clone, Copy)]
+struct SocketPeers;
+
+impl Peers<TcpLine<HostRuntime>> for SocketPeers {
+    fn peer(&self, line: &TcpLine<HostRuntime>) -> Option<SocketAddr> {
+        line.peer()
+    }
+}
 
 fn main(rt: HostRuntime) -> ExitCode {
     match start(&rt) {
@@ -130,7 +141,7 @@ fn clients(rt: &HostRuntime) -> Result<Clients, SetupFault> {
     let ahead = ahead(rt)?;
     let log = log(rt)?;
     let line = tcp_line(rt, limit, ahead)?;
-    Ok(LoggedLine::new(line, log))
+    Ok(LoggedLine::new(line, log, SocketPeers))
 }
 
 fn tcp_line(

@@ -1,11 +1,17 @@
 //! Which request is at hand, from the bytes that are read of a connection.
 
+use crate::key::{logged_key_of_header, logged_key_of_query};
+use crate::refusable::is_refusable_header;
 use crate::reply::trim_cr_for_log;
+use crate::target::append_name_for_log;
 use gate_base::Bytes;
 use std::alloc::Global;
 
 /// The bytes of a line that are kept. No longer line of a head is looked at but the first, of which so many are.
 const KEPT: usize = 8192;
+
+/// The most bytes of the names of headers that are kept.
+const MOST_NAMES: usize = 512;
 
 /// The most digits of a length.
 const DIGITS: usize = 15;
@@ -24,7 +30,7 @@ enum Stage {
 }
 
 /// The first line of the request at hand, as far as it is known, and what is needed to know where the next one begins. Of its
-/// other lines and of its body nothing is kept.
+/// other lines the id of the key that signed is kept, and the names of headers that it may be answered 501 for; of its body nothing.
 #[derive(Drop)]
 pub(crate) struct Asked {
     stage: Stage,
@@ -33,6 +39,9 @@ pub(crate) struct Asked {
     line: Bytes,
     body: u64,
     has_length: bool,
+    /// The id of the key in its Authorization header, and each name of such a header behind a space.
+    key: Bytes,
+    refusable: Bytes,
     alloc: Global,
 }
 
@@ -44,6 +53,8 @@ impl Asked {
             line: Bytes::new(alloc),
             body: 0,
             has_length: false,
+            key: Bytes::new(alloc),
+            refusable: Bytes::new(alloc),
             alloc,
         }
     }
@@ -67,6 +78,19 @@ impl Asked {
         }
     }
 
+    /// The id of the key that the request at hand names, in its Authorization header or else in its query.
+    pub(crate) fn key(&self) -> Option<&[u8]> {
+        if !self.key.is_empty() {
+            return Some(self.key.as_slice());
+        }
+        logged_key_of_query(self.first.as_slice())
+    }
+
+    /// The names of its headers that it may be answered 501 for, each behind a space.
+    pub(crate) fn refusable(&self) -> &[u8] {
+        self.refusable.as_slice()
+    }
+
     /// The request was answered. The next one is known where this one's end was.
     pub(crate) fn answered(&mut self) {
         match self.stage {
@@ -81,6 +105,8 @@ impl Asked {
         self.line = Bytes::new(self.alloc);
         self.body = 0;
         self.has_length = false;
+        self.key = Bytes::new(self.alloc);
+        self.refusable = Bytes::new(self.alloc);
     }
 
     /// These bytes were read.
@@ -138,16 +164,37 @@ impl Asked {
         }
     }
 
-    /// Takes what a header says of the request's end.
+    /// Takes what a header says of the key and of the request's end.
     fn hear(&mut self, line: &[u8]) {
         let Some(colon) = line.iter().position(|byte| *byte == b':') else {
             return;
         };
         let name = &line[..colon];
+        let value = line[colon + 1..].trim_ascii();
+        self.note_header(name, value);
+        self.hear_end(name, value);
+    }
+
+    /// What finds no memory isn't known.
+    fn note_header(&mut self, name: &[u8], value: &[u8]) {
+        if name.eq_ignore_ascii_case(b"authorization") {
+            if let (true, Some(key)) = (self.key.is_empty(), logged_key_of_header(value)) {
+                let _ = self.key.append(key);
+            }
+        } else if is_refusable_header(self.first.as_slice(), name, value) {
+            let room = MOST_NAMES.saturating_sub(self.refusable.len());
+            if name.len() < room {
+                let _ = append_name_for_log(&mut self.refusable, name);
+            }
+        }
+    }
+
+    /// Takes what a header says of the request's end.
+    fn hear_end(&mut self, name: &[u8], value: &[u8]) {
         if name.eq_ignore_ascii_case(b"transfer-encoding") {
             self.stage = Stage::Unknown;
         } else if name.eq_ignore_ascii_case(b"content-length") {
-            match body_length_for_log(line[colon + 1..].trim_ascii()) {
+            match body_length_for_log(value) {
                 Some(length) if !self.has_length => {
                     self.has_length = true;
                     self.body = length;

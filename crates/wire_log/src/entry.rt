@@ -6,6 +6,7 @@ use crate::target::append_request_for_log;
 use gate_base::{Bytes, Memory};
 use itoa::Buffer;
 use std::alloc::Global;
+use std::net::SocketAddr;
 
 /// What a log says of one reply.
 #[derive(Clone, Copy, Debug)]
@@ -25,18 +26,22 @@ pub struct Entry<'a> {
     pub calls: u64,
     /// The milliseconds from the first byte of the request that was read.
     pub took: u64,
+    /// The client's address, and the id of the key that the request names; none where it isn't known, or names none.
+    pub peer: Option<SocketAddr>,
+    pub key: Option<&'a [u8]>,
 }
 
 /// Room for most lines.
 const ROOM: usize = 256;
 
-/// The line, with its end: time, connection, method and target, status, id, bytes, calls and milliseconds, with a space between each
-/// two. `-` stands for what isn't known, twice where neither method nor target is.
+/// The line, with its end: time, connection, method and target, status, id, bytes, calls, milliseconds, the client's address and the
+/// key's id, with a space between each two. `-` stands for what isn't known, twice where neither method nor target is.
 pub fn log_entry_line(alloc: Global, entry: &Entry) -> Result<Bytes, Memory> {
     let mut line = Bytes::with_room(alloc, ROOM)?;
     append_log_front(&mut line, entry)?;
     append_log_reply(&mut line, entry)?;
     append_log_costs(&mut line, entry)?;
+    append_log_client(alloc, &mut line, entry)?;
     Ok(line)
 }
 
@@ -63,7 +68,17 @@ fn append_log_costs(line: &mut Bytes, entry: &Entry) -> Result<(), Memory> {
         None => line.append(b" -")?,
     }
     append_log_number(line, entry.calls)?;
-    append_log_number(line, entry.took)?;
+    append_log_number(line, entry.took)
+}
+
+fn append_log_client(alloc: Global, line: &mut Bytes, entry: &Entry) -> Result<(), Memory> {
+    line.append(b" ")?;
+    match entry.peer {
+        Some(peer) => line.append(format!(in alloc; "{peer}")?.as_bytes())?,
+        None => line.append(b"-")?,
+    }
+    line.append(b" ")?;
+    line.append(entry.key.unwrap_or(b"-"))?;
     line.append(b"\n")
 }
 

@@ -1,5 +1,7 @@
 //! Where the lines of a log go, and the time.
 
+use crate::cause::{Cause, append_cause};
+use crate::moment::moment_text;
 use gate_base::{Bytes, Memory, Sink};
 use std::alloc::Global;
 use std::time::{Clock, Duration};
@@ -21,6 +23,24 @@ impl<K: Sink, R: Clock> Log<K, R> {
             alloc,
             sink,
             is_on,
+        }
+    }
+
+    /// Writes a line of a text alone: the time, a space, and the text.
+    pub fn say(&mut self, text: &[u8]) {
+        if self.is_on {
+            let line = said_log_line(self.alloc, self.moment(), text);
+            self.put(line);
+        }
+    }
+
+    /// Writes a line of a store: what is said, and why.
+    pub fn say_store(&mut self, place: &[u8], what: &[u8], cause: Cause) {
+        if let (true, Ok(text)) = (
+            self.is_on,
+            said_of_logged_store(self.alloc, place, what, cause),
+        ) {
+            self.say(text.as_slice());
         }
     }
 
@@ -54,6 +74,28 @@ impl<K: Sink, R: Clock> Log<K, R> {
             let _ = self.sink.put(line.as_slice());
         }
     }
+}
+
+fn said_log_line(alloc: Global, moment: u64, text: &[u8]) -> Result<Bytes, Memory> {
+    let mut line = Bytes::from_slice(alloc, &moment_text(moment))?;
+    line.append(b" ")?;
+    line.append(text)?;
+    line.append(b"\n")?;
+    Ok(line)
+}
+
+fn said_of_logged_store(
+    alloc: Global,
+    place: &[u8],
+    what: &[u8],
+    cause: Cause,
+) -> Result<Bytes, Memory> {
+    let mut text = Bytes::from_slice(alloc, b"store ")?;
+    text.append(place)?;
+    text.append(b": ")?;
+    text.append(what)?;
+    append_cause(&mut text, cause)?;
+    Ok(text)
 }
 
 fn milliseconds(time: Duration) -> u64 {

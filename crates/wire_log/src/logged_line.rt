@@ -3,16 +3,22 @@ ghost use Rattle.std.specs.Prelude.{◌≡◌};
 
 use crate::asked::Asked;
 use crate::entry::{Entry, log_entry_line};
+use crate::last_call::LastCall;
 use crate::log::Log;
+use crate::peers::Peers;
 use crate::reply::{LoggedReply, is_unlogged_interim};
+use crate::second::{inconsistent_log_line, unimplemented_log_line};
 use gate_base::{Bytes, Counted, Failed, Line, Memory, Sink};
+use std::net::SocketAddr;
 use std::time::Clock;
 
 /// A line over another, which does whatever that one does, and logs each reply: what is written until the line is next read, closed or
-/// asked for another connection, but for interim replies before it. Its line of the log is written then.
+/// asked for another connection, but for interim replies before it. Its line of the log is written then, and behind it for two statuses a
+/// second one: for 501 what of the request may be meant, for 500 the last call of the store.
 #[derive(Drop)]
-pub struct LoggedLine<N, K, R> {
+pub struct LoggedLine<N, K, R, P> {
     line: N,
+    peers: P,
     log: Log<K, R>,
     asked: Asked,
     /// The number of the connection at hand, from 1.
@@ -23,30 +29,39 @@ pub struct LoggedLine<N, K, R> {
     calls: u64,
     /// The reply at hand, of which a part was written.
     reply: Option<LoggedReply>,
+    /// The last call of the store before a reply that says that the store is inconsistent.
+    last: Bytes,
+    /// The client of the connection at hand.
+    peer: Option<SocketAddr>,
 }
 
-impl<N, K: Sink, R: Clock> LoggedLine<N, K, R> {
-    /// The line, with its replies logged there.
-    pub fn new(line: N, log: Log<K, R>) -> LoggedLine<N, K, R>
+impl<N, K: Sink, R: Clock, P> LoggedLine<N, K, R, P> {
+    /// The line, with its replies logged there, and its clients as those tell them.
+    pub fn new(line: N, log: Log<K, R>, peers: P) -> LoggedLine<N, K, R, P>
         ensures { result.line ≡ line }
     {
         let asked = Asked::new(log.alloc());
+        let last = Bytes::new(log.alloc());
         LoggedLine {
             line,
+            peers,
             log,
             asked,
             connection: 0,
             begun: 0,
             calls: 0,
             reply: None,
+            last,
+            peer: None,
         }
     }
 
     /// A connection begins.
-    fn note_next(&mut self)
+    fn note_next(&mut self, peer: Option<SocketAddr>)
         ensures { self.new.line ≡ self.old.line }
     {
         self.connection = self.connection.saturating_add(1);
+        self.peer = peer;
         if self.log.is_on() {
             self.asked.begin();
             self.begun = self.log.ticks();
@@ -85,6 +100,36 @@ impl<N, K: Sink, R: Clock> LoggedLine<N, K, R> {
         self.reply = Some(reply);
     }
 
+    /// A reply that says that the store is inconsistent came behind that call.
+    fn note_last_call(&mut self, call: &[u8])
+        ensures { self.new.line ≡ self.old.line }
+    {
+        let is_inconsistent = match self.reply {
+            Some(reply) => reply.is_inconsistent(),
+            None => false,
+        };
+        if is_inconsistent {
+            if let Ok(last) = Bytes::from_slice(self.log.alloc(), call) {
+                self.last = last;
+            }
+        }
+    }
+
+    /// The second line for a reply, if it has one.
+    fn end_with_second_line(&mut self, reply: &LoggedReply)
+        ensures { self.new.line ≡ self.old.line }
+    {
+        let alloc = self.log.alloc();
+        if reply.is_not_implemented() {
+            let line = unimplemented_log_line(alloc, reply.moment, self.connection, &self.asked);
+            self.log.put(line);
+        } else if reply.is_inconsistent() {
+            let call = self.last.as_slice();
+            let line = inconsistent_log_line(alloc, reply.moment, self.connection, call);
+            self.log.put(line);
+        }
+    }
+
     /// The reply at hand is whole, if there is one: its line is written.
     fn end_reply(&mut self)
         ensures { self.new.line ≡ self.old.line }
@@ -92,6 +137,7 @@ impl<N, K: Sink, R: Clock> LoggedLine<N, K, R> {
         if let Some(reply) = self.reply {
             let line = self.line_for(&reply);
             self.log.put(line);
+            self.end_with_second_line(&reply);
             self.asked.answered();
             self.begun = reply.ticks;
             self.calls = reply.calls;
@@ -111,12 +157,14 @@ impl<N, K: Sink, R: Clock> LoggedLine<N, K, R> {
             bytes: reply.bytes,
             calls: reply.calls.saturating_sub(self.calls),
             took: reply.ticks.saturating_sub(self.begun),
+            peer: self.peer,
+            key: self.asked.key(),
         };
         log_entry_line(self.log.alloc(), &entry)
     }
 }
 
-impl<N: Drop, K: Sink + Drop, R: Clock + Drop> LoggedLine<N, K, R> {
+impl<N: Drop, K: Sink + Drop, R: Clock + Drop, P: Drop> LoggedLine<N, K, R, P> {
     /// The line itself. The reply at hand is whole.
     pub fn into_line(self) -> N
         ensures { result ≡ self.line }
@@ -127,7 +175,8 @@ impl<N: Drop, K: Sink + Drop, R: Clock + Drop> LoggedLine<N, K, R> {
     }
 }
 
-impl<C: Counted, N: Line<C>, K: Sink, R: Clock> Line<C> for LoggedLine<N, K, R> {
+impl<C: Counted + LastCall, N: Line<C>, K: Sink, R: Clock, P: Peers<N>> Line<C>
+    for LoggedLine<N, K, R, P> {
     ghost model = { λ logged. N.model logged.line };
 
     ghost is_line = { λ logged. N.is_line logged.line };
@@ -136,7 +185,8 @@ impl<C: Counted, N: Line<C>, K: Sink, R: Clock> Line<C> for LoggedLine<N, K, R> 
         self.end_reply();
         let result = self.line.next();
         if let Ok(true) = result {
-            self.note_next();
+            let peer = self.peers.peer(&self.line);
+            self.note_next(peer);
         }
         result
     }
@@ -155,6 +205,7 @@ impl<C: Counted, N: Line<C>, K: Sink, R: Clock> Line<C> for LoggedLine<N, K, R> 
     fn write(&mut self, store: &C, bytes: &[u8]) -> Result<(), Failed> {
         let result = self.line.write(store, bytes);
         self.note_write(bytes, store.calls(), result.is_ok());
+        self.note_last_call(store.last_call());
         result
     }
 

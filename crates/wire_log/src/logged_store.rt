@@ -2,6 +2,7 @@
 ghost use Rattle.std.specs.Prelude.{◌≡◌};
 
 use crate::cause::{Cause, Explains, append_cause};
+use crate::last_call::{LastCall, path_of_logged_call};
 use crate::log::Log;
 use crate::moment::moment_text;
 use gate_base::{Bytes, Counted, Memory, Sink};
@@ -19,6 +20,8 @@ pub struct LoggedStore<W, K, R> {
     place: Bytes,
     /// Why the last call failed; none where it was answered.
     failing: Option<Cause>,
+    /// Of which container and object the last call was, where the log is on.
+    last: Bytes,
 }
 
 impl<W, K: Sink, R: Clock> LoggedStore<W, K, R> {
@@ -26,12 +29,25 @@ impl<W, K: Sink, R: Clock> LoggedStore<W, K, R> {
     pub fn new(store: W, log: Log<K, R>, place: Bytes) -> LoggedStore<W, K, R>
         ensures { result.store ≡ store }
     {
+        let last = Bytes::new(log.alloc());
         LoggedStore {
             store,
             log,
             place,
             failing: None,
+            last,
         }
+    }
+
+    /// That was the last call. Where memory runs out it isn't known.
+    fn note_call(&mut self, request: &SwiftRequest)
+        ensures { self.new.store ≡ self.old.store }
+    {
+        let alloc = self.log.alloc();
+        self.last = match path_of_logged_call(alloc, request) {
+            Ok(path) => path,
+            Err(_) => Bytes::new(alloc),
+        };
     }
 
     /// The last call was answered, or failed for that cause.
@@ -83,6 +99,12 @@ impl<W: Counted, K, R> Counted for LoggedStore<W, K, R> {
     }
 }
 
+impl<W, K, R> LastCall for LoggedStore<W, K, R> {
+    fn last_call(&self) -> &[u8] {
+        self.last.as_slice()
+    }
+}
+
 impl<W: Swift + Explains, K: Sink, R: Clock> Swift for LoggedStore<W, K, R> {
     ghost history = { λ logged. W.history logged.store };
 
@@ -93,6 +115,7 @@ impl<W: Swift + Explains, K: Sink, R: Clock> Swift for LoggedStore<W, K, R> {
     fn call(&mut self, request: &SwiftRequest) -> Result<SwiftReply, SwiftFault> {
         let result = self.store.call(request);
         if self.log.is_on() {
+            self.note_call(request);
             match &result {
                 Ok(_) => self.note(None),
                 Err(SwiftFault::Failed) => {

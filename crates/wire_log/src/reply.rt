@@ -62,6 +62,16 @@ impl LoggedReply {
         self.status.as_slice()
     }
 
+    /// Whether it says that something isn't implemented.
+    pub(crate) fn is_not_implemented(&self) -> bool {
+        self.status.as_slice() == b"501".as_slice()
+    }
+
+    /// Whether it says that the store is inconsistent: the one reply of this status that has an id.
+    pub(crate) fn is_inconsistent(&self) -> bool {
+        self.status.as_slice() == b"500".as_slice() && self.id.as_slice() != b"-".as_slice()
+    }
+
     pub(crate) fn id(&self) -> &[u8] {
         self.id.as_slice()
     }

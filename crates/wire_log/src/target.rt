@@ -9,11 +9,13 @@ const MOST: usize = 1024;
 /// The most letters of a method.
 const LONGEST_METHOD: usize = 32;
 
-/// The parameters of a presigned address whose values aren't shown: who has them may make the request, or a longer-lived one.
-const HIDDEN: [&[u8]; 3] = [
+/// The parameters of a presigned address whose values aren't shown: who has them may make the request, or a longer-lived one. The last
+/// is of Signature Version 2, which is refused here; another server may still take it.
+const HIDDEN: [&[u8]; 4] = [
     b"x-amz-signature",
     b"x-amz-credential",
     b"x-amz-security-token",
+    b"signature",
 ];
 
 const HEX: &[u8; 16] = b"0123456789abcdef";
@@ -22,8 +24,8 @@ const HEX: &[u8; 16] = b"0123456789abcdef";
 /// letters, and for a target that doesn't begin with a slash.
 ///
 /// Of a target the first 1,024 bytes are shown, as they are escaped: a backslash, and a byte that is no visible ASCII, is `\xHH`
-/// with two lower-case hexadecimal digits. `...` stands for the values of the parameters `X-Amz-Signature`, `X-Amz-Credential` and
-/// `X-Amz-Security-Token`, however their names are written.
+/// with two lower-case hexadecimal digits. `...` stands for the values of the parameters `X-Amz-Signature`, `X-Amz-Credential`,
+/// `X-Amz-Security-Token` and `Signature`, however their names are written.
 pub fn append_request_for_log(text: &mut Bytes, line: &[u8]) -> Result<(), Memory> {
     let (method, rest) = split_logged_text(line, b' ');
     if !is_loggable_method(method) {
@@ -35,8 +37,43 @@ pub fn append_request_for_log(text: &mut Bytes, line: &[u8]) -> Result<(), Memor
     append_target_for_log(text, target)
 }
 
+/// The query of a request's first line; nothing where there is none.
+pub(crate) fn logged_query(line: &[u8]) -> &[u8] {
+    let (_method, rest) = split_logged_text(line, b' ');
+    let (target, _version) = split_logged_text(rest, b' ');
+    let (_path, query) = split_logged_text(target, b'?');
+    query
+}
+
+/// Appends the names of the parameters of a request's first line, each behind a space and a question mark; in 1,024 bytes at most.
+pub(crate) fn append_query_names_for_log(text: &mut Bytes, line: &[u8]) -> Result<(), Memory> {
+    let mut left = MOST;
+    let mut rest = logged_query(line);
+    for _parameter in 0..MOST {
+        if rest.is_empty() || left == 0 {
+            break;
+        }
+        let (parameter, behind) = split_logged_text(rest, b'&');
+        let (name, _value) = split_logged_text(parameter, b'=');
+        left = append_piece_for_log(text, b" ?", left)?;
+        left = append_escaped_for_log(text, name, left)?;
+        rest = behind;
+    }
+    Ok(())
+}
+
+/// Appends a text as it stands in a target, behind a space; `-` where it has no byte.
+pub(crate) fn append_name_for_log(text: &mut Bytes, name: &[u8]) -> Result<(), Memory> {
+    text.append(b" ")?;
+    if name.is_empty() {
+        return text.append(b"-");
+    }
+    let _left = append_escaped_for_log(text, name, MOST)?;
+    Ok(())
+}
+
 /// What stands before the first such byte, and behind it; all and nothing where there is none.
-fn split_logged_text(bytes: &[u8], byte: u8) -> (&[u8], &[u8]) {
+pub(crate) fn split_logged_text(bytes: &[u8], byte: u8) -> (&[u8], &[u8]) {
     match bytes.iter().position(|other| *other == byte) {
         Some(at) => (&bytes[..at], &bytes[at + 1..]),
         None => (bytes, b""),
@@ -132,7 +169,7 @@ fn is_hidden_in_log(name: &[u8]) -> bool {
 }
 
 /// Whether a name is that word, in any case, once its escapes `%HH` are read.
-fn spells_word_hidden_in_log(name: &[u8], word: &[u8]) -> bool {
+pub(crate) fn spells_word_hidden_in_log(name: &[u8], word: &[u8]) -> bool {
     let mut rest = name;
     for letter in word {
         let Some((byte, behind)) = first_byte_of_logged_name(rest) else {

@@ -1,0 +1,136 @@
+//! What the log says as `serve` begins, and as it ends behind the last of its turns.
+
+use crate::version::VERSION;
+use environment::{SetupFault, variable};
+use gate_base::{Bytes, Memory, StdSink};
+use gateway_cli::Command;
+use std::alloc::Global;
+use swift_requests::Place;
+use wire_log::Log;
+
+/// A log on standard error.
+pub type ErrorLog = Log<StdSink, HostRuntime>;
+
+/// The numbers of a run that variables say: seconds that a client and the store may be silent, and MiB that are held.
+#[derive(Clone, Copy)]
+pub struct Limits {
+    pub idle: u64,
+    pub ahead: u64,
+    pub store: u64,
+}
+
+/// The first line of the log: the version, the places, the account and the settings; and a second where there is no key. Where memory
+/// runs out there is none.
+pub fn say_start(
+    rt: &HostRuntime,
+    log: &mut ErrorLog,
+    command: &Command,
+    keys: &str,
+    place: &Place,
+    limits: Limits,
+) -> Result<(), SetupFault> {
+    let listens = variable(rt, "S3GATE_LISTEN")?;
+    let listens = match &listens {
+        Some(text) => text.as_bytes(),
+        None => b"",
+    };
+    if let Ok(line) = start_line(rt.alloc(), command, keys, listens, place, limits) {
+        log.say(line.as_slice());
+    }
+    if keys.is_empty() {
+        say_no_key(rt, log)?;
+    }
+    Ok(())
+}
+
+fn start_line(
+    alloc: Global,
+    command: &Command,
+    keys: &str,
+    listens: &[u8],
+    place: &Place,
+    limits: Limits,
+) -> Result<Bytes, Memory> {
+    let mut line = Bytes::from_slice(alloc, b"s3gate ")?;
+    line.append(VERSION)?;
+    append_named(&mut line, b": listens at ", listens)?;
+    append_named(&mut line, b", store ", place.host.as_slice())?;
+    append_named(&mut line, b", account ", place.account.as_slice())?;
+    append_count(alloc, &mut line, b", ", count_of_keys(keys), b" keys")?;
+    append_words(alloc, &mut line, command)?;
+    append_limits(alloc, &mut line, limits)?;
+    Ok(line)
+}
+
+fn append_words(alloc: Global, line: &mut Bytes, command: &Command) -> Result<(), Memory> {
+    if let Command::Serve {
+        region,
+        connections,
+        least_part,
+    } = command
+    {
+        append_named(line, b", region ", region.as_slice())?;
+        append_count(alloc, line, b", connections ", *connections, b"")?;
+        append_count(alloc, line, b", least part ", *least_part, b"")?;
+    }
+    Ok(())
+}
+
+fn append_limits(alloc: Global, line: &mut Bytes, limits: Limits) -> Result<(), Memory> {
+    append_count(alloc, line, b", idle ", limits.idle, b" s")?;
+    append_count(alloc, line, b", ahead ", limits.ahead, b" MiB")?;
+    append_count(alloc, line, b", store timeout ", limits.store, b" s")
+}
+
+fn append_named(line: &mut Bytes, name: &[u8], text: &[u8]) -> Result<(), Memory> {
+    line.append(name)?;
+    line.append(text)
+}
+
+fn append_count(
+    alloc: Global,
+    line: &mut Bytes,
+    front: &[u8],
+    count: u64,
+    end: &[u8],
+) -> Result<(), Memory> {
+    line.append(front)?;
+    line.append(format!(in alloc; "{count}")?.as_bytes())?;
+    line.append(end)
+}
+
+/// How many keys a key text has that is accepted: a line each, of which the last may lack its end.
+fn count_of_keys(keys: &str) -> u64 {
+    let mut count = 0u64;
+    for byte in keys.as_bytes() {
+        if *byte == b' ' {
+            count = count.saturating_add(1);
+        }
+    }
+    count
+}
+
+fn say_no_key(rt: &HostRuntime, log: &mut ErrorLog) -> Result<(), SetupFault> {
+    match variable(rt, "S3GATE_KEYS")? {
+        Some(_) => log.say(
+            b"s3gate: no key in the file of S3GATE_KEYS: every request is anonymous",
+        ),
+        None => log.say(b"s3gate: no key, since S3GATE_KEYS isn't set: every request is anonymous"),
+    }
+    Ok(())
+}
+
+/// Says that as many turns were had as the words say.
+pub fn say_end(rt: &HostRuntime, log: &mut ErrorLog, command: &Command) {
+    if let Command::Serve { connections, .. } = command {
+        if let Ok(line) = end_line(rt.alloc(), *connections) {
+            log.say(line.as_slice());
+        }
+    }
+}
+
+fn end_line(alloc: Global, connections: u64) -> Result<Bytes, Memory> {
+    let mut line = Bytes::from_slice(alloc, b"s3gate: ended behind the last of its turns")?;
+    append_count(alloc, &mut line, b": --connections is ", connections, b"")?;
+    Ok(line)
+}
