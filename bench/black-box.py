@@ -2262,6 +2262,52 @@ def each_call_of_a_completion_is_lost(check):
 
 
 @group()
+def odd_answers_to_a_completion(check):
+    """Each call from the one that seals it on, and each of those that settle the store over what is sealed, has an answer that no
+    consistent account gives, or one that spells nothing: the former is found out, and what is sealed stays until it is finished."""
+    whole, inconsistent, failed = (200, b"helloworld"), (500, "InconsistentStore"), (503, "ServiceUnavailable")
+    foreign, gone, none = answer(201, [("Etag", ABD)]), answer(404), answer(206)
+    with Store() as store, Gate(store.text, words=LEAST).settled(store) as gate:
+        for number, title, act, wanted in (
+            (4, "is stored with another ETag", foreign, inconsistent),
+            (4, "finds no container", gone, inconsistent),
+            (4, "is answered as a part", none, failed),
+            (5, "finds no container", gone, inconsistent),
+            (5, "is answered as a part", none, "done"),
+            (6, "is stored with another ETag", foreign, inconsistent),
+            (6, "finds no container", gone, inconsistent),
+            (6, "is answered as a part", none, "done"),
+            (7, "finds no file", gone, "done"),
+            (7, "is answered as a part", none, "done"),
+        ):
+            store.account = {**account(uploads=JOINED), "+gateway": ([], {})}
+            store.begin({number: act})
+            reply, made, is_sealed = done(gate.ask(*COMPLETE)), len(store.calls), b"sealed" in store.account["+gateway"][1]
+            check(f"a completion whose call {number} {title}", (wanted, number, number > 4), (reply, made, is_sealed))
+            store.begin({})
+            check("and the same again is done", ("done", whole), (done(gate.ask(*COMPLETE)), both(gate.ask("GET", "/photos/v"))))
+            check("of which nothing is sealed", {} if number < 7 or act is none else {b"sealed"}, store.account["+gateway"][1] and {*store.account["+gateway"][1]})
+        for number, title, act, wanted in (
+            (1, "finds no account", gone, failed),
+            (1, "is answered as a part", none, failed),
+            (2, "is answered as a part", none, failed),
+            (3, "is stored with another ETag", foreign, inconsistent),
+            (3, "finds no container", gone, inconsistent),
+            (4, "is stored with another ETag", foreign, inconsistent),
+            (4, "finds no container", gone, inconsistent),
+            (5, "is answered as a part", none, failed),
+        ):
+            store.account = {**account(uploads=JOINED), "+gateway": ([], {})}
+            store.begin({it: lose_request for it in range(5, 100)})
+            check("a completion is sealed, and the store goes", "done", done(gate.ask(*COMPLETE)))
+            store.begin({number: act})
+            reply, made, is_sealed = brief(gate.ask(*GET)), len(store.calls), b"sealed" in store.account["+gateway"][1]
+            check(f"settling whose call {number} {title}", (wanted, number, True), (reply, made, is_sealed))
+            store.begin({})
+            check("and the next request finishes it", (whole, {}), (both(gate.ask("GET", "/photos/v")), store.account["+gateway"][1]))
+
+
+@group()
 def a_completion_is_finished_by_another_gateway(check):
     """The store is gone behind each call of a completion, and so is the gateway."""
     for number in range(1, 8):

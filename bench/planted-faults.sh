@@ -61,6 +61,22 @@ FAULTS = [
     ("s3_pages add_object_page_headers: Accept-Ranges dropped", "s3_pages/src/object.rt", 1, "    add_header(alloc, headers, b\"Accept-Ranges\", b\"bytes\")?;\n", ""),
     ("s3_pages common: another order of headers", "s3_pages/src/pages.rt", 1, "    add_header(alloc, &mut headers, b\"Date\", &date)?;\n    add_header(alloc, &mut headers, b\"x-amz-request-id\", &id)?;", "    add_header(alloc, &mut headers, b\"x-amz-request-id\", &id)?;\n    add_header(alloc, &mut headers, b\"Date\", &date)?;"),
     ("s3_pages quoted: an ETag without its quotes", "s3_pages/src/texts.rt", 1, "Bytes::from_slice(alloc, b\"\\\"\")?", "Bytes::from_slice(alloc, b\"\")?"),
+    ("presign is_expiry_span: a week and a second", "presign/src/number.rt", 1, "1 <= seconds && seconds <= LONGEST", "1 <= seconds && seconds <= LONGEST + 1", ["presigned.txt"]),
+    ("presign is_presigned: by the algorithm alone", "presign/src/parameters.rt", 1, "has_presigned_parameter(query, ALGORITHM) || has_presigned_parameter(query, SIGNATURE)", "has_presigned_parameter(query, ALGORITHM)", ["presigned.txt", "presigned-runs.txt"]),
+    ("presign expected_query_signature: the signature stays in the query", "presign/src/verdict.rt", 1, "target.query.without(alloc, SIGNATURE)?", "target.query.without(alloc, b\"X-Amz-Algorithm\".as_slice())?", ["presigned.txt"]),
+    ("presign is_left_out: the host alone must be signed", "presign/src/verdict.rt", 1, "must_be_signed(name) && name", "must_be_signed(name) && name.len() == 4 && name", ["presigned.txt"]),
+    ("presign is_out_of_time: the expiry isn't looked at", "presign/src/verdict.rt", 1, "seconds.saturating_sub(moment) > EARLY || moment.saturating_sub(seconds) > claim.expires", "seconds.saturating_sub(moment) > EARLY", ["presigned.txt"]),
+    ("presign judge_query_by_secret: a HEAD by any signature", "presign/src/verdict.rt", 1, "if signature_differs(alloc, &claim.by, &due)? {", "if signature_differs(alloc, &claim.by, &due)? && message.method.as_slice() != b\"HEAD\".as_slice() {", ["presigned.txt"]),
+    ("presign_cmd presign_message: it holds for a second", "presign_cmd/src/message.rt", 1, "&target, moment, expires,", "&target, moment, expires.min(1),", ["presign.txt"]),
+    ("presign_cmd target_if_unsigned: the names of a signature stay", "presign_cmd/src/message.rt", 1, "    if has_signature_name(&target) {", "    if !has_signature_name(&target) {", ["presign.txt"]),
+    ("memory_swift exchange: its lists of lost messages aren't looked at", "memory_swift/src/store_link.rt", 1, "let outcome = self.outcome(number);", "let outcome = self.outcome(0);"),
+    ("memory_swift hand_or_lose_message: a request whose answer is lost isn't served", "memory_swift/src/store_link.rt", 1, "let _failed = store.hand_request_bytes(request, answer)?;", "let _failed = false;"),
+    ("memory_swift hand_or_lose_message: a lost request is served", "memory_swift/src/store_link.rt", 1, "Outcome::LostBefore => Ok(true),", "Outcome::LostBefore => store.hand_request_bytes(request, answer),"),
+    ("sigv4 are_same_signatures: the last byte alone", "sigv4/src/signature.rt", 1, "same = (one == other) & same;", "same = one == other;", ["sigv4.txt", "signatures.txt"]),
+    ("list_pages take: a text is shown again", "list_pages/src/roll.rt", 1, "        if self.is_last_text(text) {", "        if self.is_last_text(text) && self.max == 0 {", ["listings.txt"]),
+    ("list_pages is_behind: the marker is shown", "list_pages/src/roll.rt", 1, "        self.marker.as_slice().cmp(text).is_lt()", "        self.marker.as_slice().cmp(text).is_le()", ["listings.txt"]),
+    ("list_pages next_marker: it stays at the first", "list_pages/src/roll.rt", 1, "        self.last.as_slice()", "        self.marker.as_slice()", ["listings.txt"]),
+    ("list_pages finish: truncated where nothing is wanted", "list_pages/src/roll.rt", 1, "        let truncated = 0 < self.max && self.more;", "        let truncated = self.more;", ["listings.txt"]),
 ]
 
 # The files of cases that are run, which are those that take least time without a proof.
