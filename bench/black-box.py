@@ -1937,6 +1937,7 @@ ODD = [
     ("a part without a tag", PARTS_OF_V, [OPEN, RECORD, files_named(segment(type_="application/octet-stream"))]),
     ("records out of order", OPEN_ONES, [OPEN, files_named((OTHER, "application/json"), (UPLOAD, "application/json"))]),
     ("a record whose name is no id", OPEN_ONES, [OPEN, files_named(("photo", "application/json"))]),
+    ("a listed record that isn't there", OPEN_ONES, [OPEN, RECORDS, MISSING]),
 ]
 for ending, body in (("is empty", b""), ("is {}", b"{}"), ("is no JSON", b"open"), ("has a space", record("v") + b" "), ("lacks its key", record("v").replace(b'"key":"v",', b"")), ("has another version", record("v", v=3)), ("has another state", record("v", state="shut")), ("has a key that is none", record("")), ("is no UTF-8", record("v").replace(b'"v"', b'"\xff"'))):
     ODD += [(f"a record that {ending}, to {words[0]}", words, [OPEN, record_text(body)]) for words in (PART_ABC, PARTS_OF_V, ABORT)]
@@ -2021,7 +2022,6 @@ def odd_answers_are_found_out(check):
             ("an upload without a record", PART_ABC, (404, "NoSuchUpload"), [OPEN, MISSING]),
             ("an upload that was completed", ABORT, (404, "NoSuchUpload"), [OPEN, record_text(DONE)]),
             ("the list of uploads with a completed one", OPEN_ONES, (200, 0), [OPEN, RECORDS, record_text(DONE)]),
-            ("the list of uploads of which one goes", OPEN_ONES, (200, 0), [OPEN, RECORDS, MISSING]),
             ("a bucket beside which a part was left, and gone", ("PUT", "/photos"), 200, [*BESIDE, files_named(segment()), MISSING, MADE_NOW]),
             ("an upload into a missing bucket", CREATE, (404, "NoSuchBucket"), [MISSING]),
             ("a part for a missing bucket", PART_ABC, (404, "NoSuchBucket"), [MISSING]),

@@ -40,7 +40,7 @@ use Rattle.account_calls.proofs.lemmas.Walk.{idles_none, idles_trans, cause_afte
 use Rattle.upload_calls.specs.Records.{InBucket, TellsRecord}
 use Rattle.upload_calls.proofs.lemmas.Taking.{met_after, same_after}
 use Rattle.plan_uploads.specs.declared.listed_uploads.AskedUploads.{AskedUploads}
-use Rattle.plan_uploads.specs.Listing.{added, added_if, row_due, row_of_record, AddsRow, AllShown, TellsRow, TellsRows}
+use Rattle.plan_uploads.specs.Listing.{added, added_if, row_due, row_of_record, AddsRow, AllShown, HasRecord, HasRecords, TellsRow, TellsRows}
 
 -- ---- rows with dates
 
@@ -70,21 +70,48 @@ record_dated (Some file) key content_type meta started is = content_dated file.c
 
 -- ---- one upload
 
+there_of : {bucket : List ℕ} {id : ℕ} (tree : SwiftAccount) → GivenOf (HasRecord bucket id) tree → GivenOf (InBucket bucket) tree
+there_of tree has = record { settled = has.settled; is = has.is.there }
+
+met_there : {bucket : List ℕ} {id : ℕ} {a : History} → Met (GivenOf (HasRecord bucket id)) a → Met (GivenOf (InBucket bucket)) a
+met_there {a = a} met = record { observable = met.observable; sound = met.sound; has = there_of (present a) met.has }
+
+module _ (bucket : List ℕ) (asked : AskedUploads) (id : ℕ) {a b : History} (old : Names UploadItem) where
+  -- a record that is no row
+  pub asks_no_row : (told : Option Record) → row_of_record asked id told ≡ None → Asks (always 1) a b (GivenOf (InBucket bucket)) (TellsOf (TellsRecord bucket id)) (Ok told)
+      → Asks (always 1) a b (GivenOf (HasRecord bucket id)) (TellsOf (TellsRow asked bucket id old old)) (Ok tt)
+  asks_no_row told nothing asks = asks_told there_of tt (λ tree sound has tells. sym (ap (λ r. added_if (row_of_record asked id r) old) tells ∙ ap (λ o. added_if o old) nothing)) asks
+
+  -- no record, where one is
+  pub asks_missing : Asks (always 1) a b (GivenOf (InBucket bucket)) (TellsOf (TellsRecord bucket id)) (Ok None)
+      → Asks (always 1) a b (GivenOf (HasRecord bucket id)) (TellsOf (TellsRow asked bucket id old old)) (Err plan.Inconsistent)
+  asks_missing asks = record {
+    grows = record { on = asks.grows.on; calls = asks.grows.calls };
+    cause = asks.cause;
+    effect = λ met.
+        let keeps = asks.effect (met_there met) in
+        let from : b.account_at a.called ≡ present a = (asks.grows.on.kept met.observable).accounts a.called (omega arith) in
+        let gone : record_at (files (present a) (uploads_name bucket)) (id_digits id) ≡ None = subst (λ tree. record_at (files tree (uploads_name bucket)) (id_digits id) ≡ None) from keeps.2.of_account in
+        let never : false ≡ true = sym (ap is_some gone) ∙ met.has.is.has in
+        cc;
+    settled = asks.settled;
+  }
+
 module _ (bucket : List ℕ) (asked : AskedUploads) (id : ℕ) {a b : History} (key content_type : List ℕ) (meta : List Pair) (started : ℕ) (told : Option Record) (is : told ≡ Some (Open key content_type meta started))
     (asks : Asks (always 1) a b (GivenOf (InBucket bucket)) (TellsOf (TellsRecord bucket id)) (Ok told)) (old new : Names UploadItem) where
   record_is : (tree : SwiftAccount) → TellsRecord bucket id tree told → record_at (files tree (uploads_name bucket)) (id_digits id) ≡ Some (Open key content_type meta started)
   record_is tree tells = tells ∙ is
 
   -- the row of an open upload
-  pub asks_row : (result : Result (Unit {0}) PlanFault) → AddsRow asked id key started old new result → Asks (always 1) a b (GivenOf (InBucket bucket)) (TellsOf (TellsRow asked bucket id old new)) result
-  asks_row (Ok tt) adds = asks_told (λ tree has. has) tt (λ tree sound has tells. adds ∙ ap (λ r. added_if (row_of_record asked id r) old) (sym (record_is tree tells))) asks
+  pub asks_row : (result : Result (Unit {0}) PlanFault) → AddsRow asked id key started old new result → Asks (always 1) a b (GivenOf (HasRecord bucket id)) (TellsOf (TellsRow asked bucket id old new)) result
+  asks_row (Ok tt) adds = asks_told there_of tt (λ tree sound has tells. adds ∙ ap (λ r. added_if (row_of_record asked id r) old) (sym (record_is tree tells))) asks
   asks_row (Err plan.Failed) never = absurd never
-  asks_row (Err plan.Memory) done = asks_out_of_memory (λ tree has. has) asks (Err plan.Memory) refl
+  asks_row (Err plan.Memory) done = asks_out_of_memory there_of asks (Err plan.Memory) refl
   asks_row (Err plan.Inconsistent) late = record {
-    grows = asks.grows;
+    grows = record { on = asks.grows.on; calls = asks.grows.calls };
     cause = asks.cause;
     effect = λ met.
-        let keeps = asks.effect met in
+        let keeps = asks.effect (met_there met) in
         let soon = record_dated _ key content_type meta started (record_is (b.account_at a.called) keeps.2.of_account) in
         omega (arith, soon, late);
     settled = asks.settled;
@@ -143,8 +170,8 @@ pub record Gathered (a b : History) (asked : AskedUploads) (bucket ids : List �
   pub faults : b.faults ≡ a.faults
   pub settled : IsTrue a.observable → IsSettled (present a) → IsSettled (present b)
   pub calls : b.called ≤ a.called + i
-  pub idles : Met (GivenOf (InBucket bucket)) a → Idles b a.called b.called
-  pub are : Met (GivenOf (InBucket bucket)) a → rows ≡ rows_of asked bucket (present a) (take i ids)
+  pub idles : Met (GivenOf (HasRecords bucket ids)) a → Idles b a.called b.called
+  pub are : Met (GivenOf (HasRecords bucket ids)) a → rows ≡ rows_of asked bucket (present a) (take i ids)
 
 take_none : (ids : List ℕ) → take 0 ids ≡ []
 take_none [] = refl
@@ -161,8 +188,19 @@ gathered_none a asked bucket ids rows none = record {
 }
 
 module _ {a b : History} {asked : AskedUploads} {bucket ids : List ℕ} {i : ℕ} {rows : Names UploadItem} (so : Gathered a b asked bucket ids i rows) (id : ℕ) (near : i < length ids) (is : id ≡ get_or ids i 0) where
+  -- which has a record
+  one_of : {h : History} → Met (GivenOf (HasRecords bucket ids)) h → Met (GivenOf (HasRecord bucket id)) h
+  one_of {h = h} met = record {
+    observable = met.observable;
+    sound = met.sound;
+    has = record {
+      settled = met.has.settled;
+      is = record { there = met.has.is.there; has = ap (λ n. is_some (record_at (files (present h) (uploads_name bucket)) (id_digits n))) is ∙ met.has.is.each i 0 near };
+    };
+  }
+
   -- one more
-  pub gathered_more : {c : History} {new : Names UploadItem} {told : Unit {0}} → Asks (always 1) b c (GivenOf (InBucket bucket)) (TellsOf (TellsRow asked bucket id rows new)) (Ok told) → Gathered a c asked bucket ids (i + 1) new
+  pub gathered_more : {c : History} {new : Names UploadItem} {told : Unit {0}} → Asks (always 1) b c (GivenOf (HasRecord bucket id)) (TellsOf (TellsRow asked bucket id rows new)) (Ok told) → Gathered a c asked bucket ids (i + 1) new
   gathered_more {c = c} {new = new} asks =
       let calls = asks.grows.calls in
       let before = so.calls in
@@ -172,33 +210,33 @@ module _ {a b : History} {asked : AskedUploads} {bucket ids : List ℕ} {i : ℕ
         settled = λ observable settled. asks.settled (so.on.observable observable) (so.settled observable settled);
         calls = omega (arith, calls, before);
         idles = λ met.
-            let keeps = asks.effect (met_after (InBucket bucket) so.on so.settled (so.idles met) met) in
+            let keeps = asks.effect (one_of (met_after (HasRecords bucket ids) so.on so.settled (so.idles met) met)) in
             idles_trans so.on.ordered (asks.grows.on.kept (so.on.observable met.observable)) (so.idles met) (record { quiet = keeps.0; still = keeps.1; same = keeps.2.same });
         are = λ met.
-            let keeps = asks.effect (met_after (InBucket bucket) so.on so.settled (so.idles met) met) in
+            let keeps = asks.effect (one_of (met_after (HasRecords bucket ids) so.on so.settled (so.idles met) met)) in
             let same : c.account_at b.called ≡ present a =
-            (asks.grows.on.kept (so.on.observable met.observable)).accounts b.called (omega arith) ∙ same_after (InBucket bucket) so.on so.settled (so.idles met) met in
+            (asks.grows.on.kept (so.on.observable met.observable)).accounts b.called (omega arith) ∙ same_after (HasRecords bucket ids) so.on so.settled (so.idles met) met in
             let more : new ≡ added_if (row_due asked bucket (present a) id) rows = subst (λ tree. new ≡ added_if (row_due asked bucket tree id) rows) same keeps.2.of_account in
             more ∙ ap (added_if (row_due asked bucket (present a) id)) (so.are met) ∙ one_more asked bucket (present a) ids i id near is;
       }
 
   -- one that wasn't added
-  pub gathered_fault : {T : Type 0} {P : SwiftAccount → T → Type 0} {c : History} {f : PlanFault} → Asks (always 1) b c (GivenOf (InBucket bucket)) (TellsOf P) (Err f)
-      → (result : Result (Names UploadItem) PlanFault) → IsErrAnd result (λ e. e ≡ f) → Asks (always (length ids)) a c (GivenOf (InBucket bucket)) (TellsOf (TellsRows asked bucket ids)) result
+  pub gathered_fault : {T : Type 0} {P : SwiftAccount → T → Type 0} {c : History} {f : PlanFault} → Asks (always 1) b c (GivenOf (HasRecord bucket id)) (TellsOf P) (Err f)
+      → (result : Result (Names UploadItem) PlanFault) → IsErrAnd result (λ e. e ≡ f) → Asks (always (length ids)) a c (GivenOf (HasRecords bucket ids)) (TellsOf (TellsRows asked bucket ids)) result
   gathered_fault {T = T} {P = P} {c = c} {f = f} asks result err =
       let calls = asks.grows.calls in
       let before = so.calls in
-      subst (Asks (always (length ids)) a c (GivenOf (InBucket bucket)) (TellsOf (TellsRows asked bucket ids))) (sym (err_is result f err)) (record {
+      subst (Asks (always (length ids)) a c (GivenOf (HasRecords bucket ids)) (TellsOf (TellsRows asked bucket ids))) (sym (err_is result f err)) (record {
         grows = record { on = goes_trans so.on asks.grows.on; calls = omega (arith, calls, before, near) };
         cause = cause_after T (Names UploadItem) a.faults b.faults c.faults f so.faults asks.cause;
         effect = λ met. keeps_after T (Names UploadItem) P (TellsRows asked bucket ids) b c a.called b.called c.called f so.on.ordered
-            (asks.grows.on.kept (so.on.observable met.observable)) (so.idles met) (asks.effect (met_after (InBucket bucket) so.on so.settled (so.idles met) met));
+            (asks.grows.on.kept (so.on.observable met.observable)) (so.idles met) (asks.effect (one_of (met_after (HasRecords bucket ids) so.on so.settled (so.idles met) met)));
         settled = λ observable settled. asks.settled (so.on.observable observable) (so.settled observable settled);
       })
 
 -- all were
 pub gathered_all : {a b : History} {asked : AskedUploads} {bucket ids : List ℕ} {i : ℕ} {rows : Names UploadItem} → Gathered a b asked bucket ids i rows → i ≤ length ids → length ids ≤ i
-    → Asks (always (length ids)) a b (GivenOf (InBucket bucket)) (TellsOf (TellsRows asked bucket ids)) (Ok rows)
+    → Asks (always (length ids)) a b (GivenOf (HasRecords bucket ids)) (TellsOf (TellsRows asked bucket ids)) (Ok rows)
 gathered_all {a = a} {b = b} {asked = asked} {bucket = bucket} {ids = ids} {i = i} so within all =
     let before = so.calls in
     record {

@@ -17,12 +17,14 @@ use Rattle.s3_machine.specs.State.{Upload}
 use Rattle.s3_machine.specs.Uploads.{cut, id_value, is_upload_after, is_upload_listed, upload_place, upload_row, uploads_after}
 use Rattle.s3_machine.specs.declared.items.UploadItem.{UploadItem}
 use Rattle.swift_calls.specs.Account.{SwiftObject, SwiftContainer, SwiftAccount, files}
+use Rattle.swift_calls.specs.Bodies.{plain_bytes}
 use Rattle.swift_calls.specs.History.{History, present}
+use Rattle.upload_texts.specs.Records.{read_record}
 use Rattle.upload_texts.specs.declared.record.Record.{Record}
 use Rattle.upload_texts.specs.declared.record.Record.TheVariants.{Open, Done}
 use Rattle.upload_records.specs.Layout.{uploads_name, segments_name}
 use Rattle.upload_records.specs.Native.{bucket_of, bucket_from, record_of, record_at, upload_by, upload_of, IsSettled, s3_state}
-use Rattle.upload_records.specs.Consistent.{IsConsistent, IsThere}
+use Rattle.upload_records.specs.Consistent.{IsConsistent, IsRecord, IsThere}
 use Rattle.upload_records.proofs.lemmas.Plain.{get_plain}
 use Rattle.upload_records.proofs.lemmas.Settled.{unsealed_of, s3_state_unsealed}
 use Rattle.list_pages.proofs.lemmas.PickedEntries.{entries_picked}
@@ -44,7 +46,7 @@ use Rattle.upload_calls.proofs.lemmas.PartWalk.{cut_none}
 use Rattle.upload_calls.proofs.lemmas.RecordIds.{rows_within}
 use Rattle.upload_calls.proofs.lemmas.Taking.{met_after, same_after}
 use Rattle.plan_uploads.specs.declared.listed_uploads.AskedUploads.{AskedUploads}
-use Rattle.plan_uploads.specs.Listing.{row_due, row_of_record, AllShown, TellsListed, TellsRows}
+use Rattle.plan_uploads.specs.Listing.{row_due, row_of_record, AllShown, HasRecords, TellsListed, TellsRows}
 
 -- ---- one record
 
@@ -72,6 +74,11 @@ module _ (asked : AskedUploads) (S : Names SwiftObject) (id : ℕ) (name : List 
 
 -- ---- all of them
 
+every : {X : Type 0} (P : X → Type 0) (xs : List X) → AllByRecursion P xs → All P xs
+every P [] h n d near = absurd (omega (arith, near))
+every P (x ∷ xs) h zero d near = h.0
+every P (x ∷ xs) h (suc n) d near = every P xs h.1 n d (omega (arith, near))
+
 module _ (asked : AskedUploads) (tree : SwiftAccount) (bucket : List ℕ) (is : is_bucket bucket ≡ true) (sound : IsConsistent tree) (there : IsThere tree bucket) where
   abbrev records : Names SwiftObject
   records = files tree (uploads_name bucket)
@@ -97,6 +104,27 @@ module _ (asked : AskedUploads) (tree : SwiftAccount) (bucket : List ℕ) (is : 
       ∙ ap (λ o. cons_option (row_of_record asked r.id o) (filter_map (row_due asked bucket tree) (filter_map id_due (map item_at (behind [] (with_prefix [] es)))))) (found_record e h.0 r.id r.named)
       ∙ one_row asked segments r.id e.0 r.named read (record_of e.1) (filter_map (row_due asked bucket tree) (filter_map id_due (map item_at (behind [] (with_prefix [] es)))))
       (filter_map (pick_entry (upload_of segments)) es) (rows_by es h.1)
+
+  -- ---- each of the ids has a record
+
+  abbrev pub Has : ℕ → Type 0
+  Has id = is_some (record_at records (id_digits id)) ≡ true
+
+  record_is_some : (e : List ℕ × SwiftObject) (r : IsRecord e.0 e.1) → is_some (record_of e.1) ≡ true
+  record_is_some e r = ap (λ c. is_some (option_and_then read_record (plain_bytes c))) r.own ∙ ap is_some r.reads
+
+  have_by : (es : List (List ℕ × SwiftObject)) → AllByRecursion (IsEntry records) es → AllByRecursion Has (filter_map id_due (map item_at (behind [] (with_prefix [] es))))
+  have_by [] h = tt
+  have_by (e ∷ es) h =
+      let r = (sound.buckets bucket is there).of_records e.0 e.1 h.0 in
+      let read : id_of e.0 ≡ Some r.id = ap id_of r.named ∙ id_reads_back r.id r.fits in
+      let more : filter_map id_due (map item_at (behind [] (with_prefix [] (e ∷ es)))) ≡ r.id ∷ filter_map id_due (map item_at (behind [] (with_prefix [] es))) =
+      ap (λ t. filter_map id_due (map item_at (cond t (e ∷ behind [] (with_prefix [] es)) (behind [] (with_prefix [] es))))) (filled e.0 (sound.stored (uploads_name bucket) e.0 e.1 h.0).named.filled)
+      ∙ ap (λ o. cons_option o (filter_map id_due (map item_at (behind [] (with_prefix [] es))))) read in
+      subst (AllByRecursion Has) (sym more) (ap is_some (found_record e h.0 r.id r.named) ∙ record_is_some e r, have_by es h.1)
+
+  pub records_have : All Has (ids_in bucket tree)
+  records_have = every Has (ids_in bucket tree) (have_by (entries records) (entries_are records))
 
   picked_are : entries (picked (upload_of segments) records) ≡ filter_map (pick_entry (upload_of segments)) (entries records)
   unfolding picked
@@ -130,7 +158,7 @@ ids_within tree bucket =
     let within = rows_within tree bucket [] in
     omega (arith, few, within, length-map rows item_at)
 
-module _ {a b : History} (asked : AskedUploads) (bucket : List ℕ) {ids : List ℕ} (first : Asks (by_account (pages (records_of (present a) bucket))) a b (GivenOf (InBucket bucket)) (TellsOf (TellsIds bucket)) (Ok ids)) where
+module _ {a b : History} (asked : AskedUploads) (bucket : List ℕ) (is : is_bucket bucket ≡ true) {ids : List ℕ} (first : Asks (by_account (pages (records_of (present a) bucket))) a b (GivenOf (InBucket bucket)) (TellsOf (TellsIds bucket)) (Ok ids)) where
   idles_first : Met (GivenOf (InBucket bucket)) a → Idles b a.called b.called
   idles_first met = let keeps = first.effect met in record { quiet = keeps.0; still = keeps.1; same = keeps.2.same }
 
@@ -139,10 +167,24 @@ module _ {a b : History} (asked : AskedUploads) (bucket : List ℕ) {ids : List 
       let order = first.grows.on.ordered in
       (first.effect met).2.of_account ∙ ap (ids_in bucket) ((first.grows.on.kept met.observable).accounts a.called (omega arith))
 
-  met_then : Met (GivenOf (InBucket bucket)) a → Met (GivenOf (InBucket bucket)) b
-  met_then met = met_after (InBucket bucket) first.grows.on first.settled (idles_first met) met
+  met_then : Met (GivenOf (InBucket bucket)) a → Met (GivenOf (HasRecords bucket ids)) b
+  met_then met =
+      let then = met_after (InBucket bucket) first.grows.on first.settled (idles_first met) met in
+      let here : present a ≡ present b = sym (same_after (InBucket bucket) first.grows.on first.settled (idles_first met) met) in
+      let have = records_have asked (present b) bucket is then.sound then.has.is in
+      record {
+        observable = then.observable;
+        sound = then.sound;
+        has = record {
+          settled = then.has.settled;
+          is = record {
+            there = then.has.is;
+            each = subst (All (λ id. is_some (record_at (files (present b) (uploads_name bucket)) (id_digits id)) ≡ true)) (sym (ids_are met ∙ ap (ids_in bucket) here)) have;
+          };
+        };
+      }
 
-  within_both : {c : History} {r : Result (Names UploadItem) PlanFault} → Asks (always (length ids)) b c (GivenOf (InBucket bucket)) (TellsOf (TellsRows asked bucket ids)) r → Met (GivenOf (InBucket bucket)) a
+  within_both : {c : History} {r : Result (Names UploadItem) PlanFault} → Asks (always (length ids)) b c (GivenOf (HasRecords bucket ids)) (TellsOf (TellsRows asked bucket ids)) r → Met (GivenOf (InBucket bucket)) a
       → c.called ≤ a.called + (pages (records_of (present a) bucket) + records_of (present a) bucket)
   within_both then met =
       let pages_made = first.grows.calls met in
@@ -150,7 +192,7 @@ module _ {a b : History} (asked : AskedUploads) (bucket : List ℕ) {ids : List 
       let few = ids_within (present a) bucket in
       omega (arith, pages_made, gets_made, few, ap length (ids_are met))
 
-  pub listed : {c : History} (r : Result (Names UploadItem) PlanFault) → Asks (always (length ids)) b c (GivenOf (InBucket bucket)) (TellsOf (TellsRows asked bucket ids)) r
+  pub listed : {c : History} (r : Result (Names UploadItem) PlanFault) → Asks (always (length ids)) b c (GivenOf (HasRecords bucket ids)) (TellsOf (TellsRows asked bucket ids)) r
       → Asks (by_account (pages (records_of (present a) bucket) + records_of (present a) bucket)) a c (GivenOf (InBucket bucket)) (TellsOf (TellsListed asked bucket)) r
   listed {c = c} (Ok rows) then = record {
     grows = record { on = goes_trans first.grows.on then.grows.on; calls = within_both then };
@@ -175,10 +217,10 @@ module _ {a b : History} (asked : AskedUploads) (bucket : List ℕ) {ids : List 
   }
 
 -- the same of the ids as they are handed on
-pub listed_of : {a b c : History} (asked : AskedUploads) (bucket : List ℕ) {ids told : List ℕ} → told ≡ ids → Asks (by_account (pages (records_of (present a) bucket))) a b (GivenOf (InBucket bucket)) (TellsOf (TellsIds bucket)) (Ok ids)
-    → (r : Result (Names UploadItem) PlanFault) → Asks (always (length told)) b c (GivenOf (InBucket bucket)) (TellsOf (TellsRows asked bucket told)) r
+pub listed_of : {a b c : History} (asked : AskedUploads) (bucket : List ℕ) → is_bucket bucket ≡ true → {ids told : List ℕ} → told ≡ ids → Asks (by_account (pages (records_of (present a) bucket))) a b (GivenOf (InBucket bucket)) (TellsOf (TellsIds bucket)) (Ok ids)
+    → (r : Result (Names UploadItem) PlanFault) → Asks (always (length told)) b c (GivenOf (HasRecords bucket told)) (TellsOf (TellsRows asked bucket told)) r
     → Asks (by_account (pages (records_of (present a) bucket) + records_of (present a) bucket)) a c (GivenOf (InBucket bucket)) (TellsOf (TellsListed asked bucket)) r
-listed_of {a = a} {b = b} asked bucket is first r then = listed asked bucket (subst (λ ns. Asks (by_account (pages (records_of (present a) bucket))) a b (GivenOf (InBucket bucket)) (TellsOf (TellsIds bucket)) (Ok ns)) (sym is) first) r then
+listed_of {a = a} {b = b} asked bucket name is first r then = listed asked bucket name (subst (λ ns. Asks (by_account (pages (records_of (present a) bucket))) a b (GivenOf (InBucket bucket)) (TellsOf (TellsIds bucket)) (Ok ns)) (sym is) first) r then
 
 -- ---- what is told of the state
 
@@ -249,14 +291,9 @@ none_asked a most bucket prefix key_marker id_marker max none result is = record
 
 -- ---- their dates
 
-all_from : (items : List UploadItem) → AllByRecursion IsShownUpload items → All IsShownUpload items
-all_from [] h n d near = absurd (omega (arith, near))
-all_from (x ∷ items) h zero d near = h.0
-all_from (x ∷ items) h (suc n) d near = all_from items h.1 n d (omega (arith, near))
-
 shown_by : (rows : Names UploadItem) → AllShown rows → (es : List (List ℕ × UploadItem)) → AllByRecursion (IsEntry rows) es → AllByRecursion IsShownUpload (map (λ row. row.1) es)
 shown_by rows shown [] h = tt
 shown_by rows shown (e ∷ es) h = (shown.each e.0 e.1 h.0, shown_by rows shown es h.1)
 
 pub shown_items : (rows : Names UploadItem) (items : List UploadItem) → AllShown rows → items ≡ map (λ row. row.1) (entries rows) → All IsShownUpload items
-shown_items rows items shown are = subst (All IsShownUpload) (sym are) (all_from (map (λ row. row.1) (entries rows)) (shown_by rows shown (entries rows) (entries_are rows)))
+shown_items rows items shown are = subst (All IsShownUpload) (sym are) (every IsShownUpload (map (λ row. row.1) (entries rows)) (shown_by rows shown (entries rows) (entries_are rows)))

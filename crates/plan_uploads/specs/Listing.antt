@@ -1,7 +1,7 @@
 -- The uploads of a bucket, as the listing of its records and GET of each tell them. Source: Object Storage API v1, "Show
 -- container details and list objects", and this profile.
-use Rattle.std.specs.Prelude.{◌≡◌, ◌≤◌, ⊤, ℕ, ◌&&◌, List, is_some, cond, Option, None, Some, Result, Ok, Err}
-use Rattle.std.specs.List.{filter_map}
+use Rattle.std.specs.Prelude.{◌≡◌, ◌≤◌, ⊤, ℕ, true, ◌&&◌, List, is_some, cond, Option, None, Some, Result, Ok, Err}
+use Rattle.std.specs.List.{All, filter_map}
 use Rattle.std.specs.FinMap.{from_entries, get, insert}
 use Rattle.gate_base.specs.Maps.{Names, name_cmp}
 use Rattle.gate_base.specs.Told.{moment_limit}
@@ -15,10 +15,21 @@ use Rattle.upload_texts.specs.declared.record.Record.{Record}
 use Rattle.upload_texts.specs.declared.record.Record.TheVariants.{Open, Done}
 use Rattle.upload_records.specs.Layout.{uploads_name}
 use Rattle.upload_records.specs.Native.{record_at}
+use Rattle.upload_records.specs.Consistent.{IsThere}
 use Rattle.account_calls.specs.declared.fault.PlanFault.{PlanFault}
 use Rattle.account_calls.specs.declared.fault.PlanFault.TheVariants.{Failed, Memory, Inconsistent}
 use Rattle.upload_calls.specs.Listing.{ids_in}
 use Rattle.plan_uploads.specs.declared.listed_uploads.AskedUploads.{AskedUploads}
+
+-- the bucket is there, and the id has a record in it, as that of a record which was listed has
+pub record HasRecord (bucket : List ℕ) (id : ℕ) (tree : SwiftAccount) : Type 0 where
+  pub there : IsThere tree bucket
+  pub has : is_some (record_at (files tree (uploads_name bucket)) (id_digits id)) ≡ true
+
+-- and each of these ids has
+pub record HasRecords (bucket ids : List ℕ) (tree : SwiftAccount) : Type 0 where
+  pub there : IsThere tree bucket
+  pub each : All (λ id. is_some (record_at (files tree (uploads_name bucket)) (id_digits id)) ≡ true) ids
 
 -- the row of an open upload, where it is listed, at its place
 abbrev pub row_by : AskedUploads → ℕ → List ℕ → ℕ → Option (List ℕ × UploadItem)

@@ -14,7 +14,7 @@ ghost use Rattle.account_calls.specs.Calls.{always, by_account, Asks, GivenOf, T
 ghost use Rattle.account_calls.specs.Lent.{Stays};
 ghost use Rattle.account_calls.specs.Listing.{TellsOf};
 ghost use Rattle.upload_calls.specs.Records.{InBucket, TellsUploads};
-ghost use Rattle.plan_uploads.specs.Listing.{added, AddsRow, AllShown, TellsListed, TellsRow, TellsRows};
+ghost use Rattle.plan_uploads.specs.Listing.{added, AddsRow, AllShown, HasRecord, HasRecords, TellsListed, TellsRow, TellsRows};
 
 use account_calls::{PlanFault, Settled};
 use gate_base::{Bytes, Copying, List, MOMENT_LIMIT, Memory};
@@ -107,7 +107,8 @@ fn add_open(
     Ok(())
 }
 
-/// Adds the upload of an id, where it is open and listed.
+/// Adds the upload of an id, where it is open and listed. Inconsistent where the id was listed and has no record: no consistent
+/// account gives both.
 fn add_upload<W: Swift>(
     alloc: Global,
     state: &mut Settled<'_, W>,
@@ -120,11 +121,12 @@ fn add_upload<W: Swift>(
     ensures stays { Stays state.old state.new }
     ensures dated { AllShown rows.old → OnOk result (AllShown rows.new) }
     ensures asks { Asks (always 1) (W.history state.old.store.now) (W.history state.new.store.now)
-        (GivenOf (InBucket bucket.now)) (TellsOf (TellsRow asked.now bucket.now id rows.old rows.new)) result }
+        (GivenOf (HasRecord bucket.now id)) (TellsOf (TellsRow asked.now bucket.now id rows.old rows.new)) result }
 {
     match get_record(alloc, state, bucket, id)? {
         Some(Record::Open { key, started, .. }) => add_open(alloc, asked, rows, id, key, started),
-        _ => Ok(()),
+        Some(Record::Done { .. }) => Ok(()),
+        None => Err(PlanFault::Inconsistent),
     }
 }
 
@@ -140,7 +142,7 @@ fn open_uploads_of_ids<W: Swift>(
     ensures stays { Stays state.old state.new }
     ensures dated { IfOk result AllShown }
     ensures asks { Asks (always (length ids.now)) (W.history state.old.store.now) (W.history state.new.store.now)
-        (GivenOf (InBucket bucket.now)) (TellsOf (TellsRows asked.now bucket.now ids.now)) result }
+        (GivenOf (HasRecords bucket.now ids.now)) (TellsOf (TellsRows asked.now bucket.now ids.now)) result }
 {
     let mut rows = Table::new(alloc);
     for id in ids {
