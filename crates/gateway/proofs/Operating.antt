@@ -114,7 +114,7 @@ operated_by {settings = settings} {op = op} {label = label} {old = old} {middle 
   showable = given.showable;
   caused = record {
     unavailable = λ is. rose_later old.faults middle.faults new.faults readied.on.faults (given.unavailable is);
-    refused = λ is. subst (λ n. IsWithinShown (most_refused op reply) n new.called) (readied.needs_none is) given.refused;
+    stops = λ is. subst (λ n. IsWithinShown (most_refused op reply) n new.called) (readied.needs_none is) given.refused;
     unsure = λ is. inr (given.unsure is);
   };
   effect = λ met.
@@ -169,7 +169,7 @@ not_settled {op = op} {label = label} {old = old} {new = new} fault settles = re
   showable = fault_shown fault;
   caused = record {
     unavailable = λ is. fault_cause fault old.faults new.faults settles.asks.cause is;
-    refused = λ is. absurd (let no : known.Unsure ≡ known.Settled = is in cc);
+    stops = λ is. absurd (let no : known.Unsure ≡ known.Settled = is in cc);
     unsure = λ is. inl (refl, fault_known fault);
   };
   effect = λ met.

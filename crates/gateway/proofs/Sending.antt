@@ -144,7 +144,7 @@ beside_read op found label h p q reply reads = subst (λ o. SaysBeside (beside_o
 -- a reply behind which the store is known to be settled has its cause
 caused_by : (old new : StoreCursor) (op : Op) (reply : Reply) → new.known ≡ known.Settled → IsWithinShown (most_refused op reply) old.number new.number
     → (reply ≡ answer.Refused ServiceUnavailable → Rose old.faults new.faults) → IsCaused old new op reply
-caused_by old new op reply settled shown rose = record { unavailable = rose; refused = λ is. shown; unsure = λ is. absurd (let no : known.Settled ≡ known.Unsure = sym settled ∙ is in cc) }
+caused_by old new op reply settled shown rose = record { unavailable = rose; stops = λ is. shown; unsure = λ is. absurd (let no : known.Settled ≡ known.Unsure = sym settled ∙ is in cc) }
 
 -- a fault is no refusal
 fault_unshown : (op : Op) (old new : History) (f : PlanFault) → IsWithinShown (most_refused op (reply_of (Err f))) old.called new.called

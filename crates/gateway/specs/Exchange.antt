@@ -112,7 +112,7 @@ IsFault reply = (reply ≡ Refused ServiceUnavailable) ⊎ ((reply ≡ Refused I
 -- where the operation leaves it so
 pub record IsCaused (old new : StoreCursor) (op : Op) (reply : Reply) : Type 0 where
   pub unavailable : reply ≡ Refused ServiceUnavailable → Rose old.faults new.faults
-  pub refused : old.known ≡ known.Settled → IsWithinShown (most_refused op reply) old.number new.number
+  pub stops : old.known ≡ known.Settled → IsWithinShown (most_refused op reply) old.number new.number
   pub unsure : new.known ≡ known.Unsure → ((old.known ≡ known.Unsure) × IsFault reply) ⊎ (may_leave_unsure op reply ≡ true)
 
 -- what is said of the reply to an operation, over an observable store: the store could not be settled; or it was, and the

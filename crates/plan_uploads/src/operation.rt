@@ -36,7 +36,7 @@ pub struct Replied {
 /// leaves it. Or it is ServiceUnavailable, only where the store's count of faults rose in this call: the last call failed, no
 /// earlier one did, and the state is the old one or the step's. Or it is `Memory`, where memory ran out, with the same two
 /// states. Or it is InconsistentStore, never over an observable consistent account. How many calls there are is bounded by the
-/// operation, also where the reply is a refusal. An upload that is created has the first id that is free from the label's word
+/// operation, and a refusal stops at the call that shows it. An upload that is created has the first id that is free from the label's word
 /// of chance on; where one was aborted and no call failed, none of its segments is left. A completion is done once it is sealed:
 /// where a later call fails, the reply is the service's own, and it is then unsure whether the completion is sealed still.
 pub fn answer<W: Swift>(alloc: Global, state: &mut Settled<'_, W>, op: Op, label: &Label) -> Replied

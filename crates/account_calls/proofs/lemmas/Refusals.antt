@@ -1,6 +1,5 @@
 -- A plan stops at the call that shows why it is refused.
 use Rattle.std.specs.Prelude.{◌≡◌, ◌≤◌, ℕ, ◌+◌, false, Option, None, Some, IfSome, IfOk, Result, Ok, Err}
-use Rattle.std.specs.Result.{IsErrAnd}
 use Rattle.std.proofs.Common.{refl, sym, subst, arith}
 use Rattle.s3_machine.specs.declared.code.Code.{Code}
 use Rattle.s3_machine.specs.declared.code.Code.TheVariants as code
@@ -14,7 +13,6 @@ use Rattle.account_calls.specs.declared.fault.PlanFault.TheVariants.{Failed, Mem
 use Rattle.account_calls.specs.Calls.{Asks, always}
 use Rattle.account_calls.specs.Plan.{ended, reply_of}
 use Rattle.account_calls.specs.Refusals.{IsWithinShown, Shows, Stops, Unrefused, code_shown_by, is_refusal, most_refused, shown_by, shows}
-use Rattle.account_calls.proofs.lemmas.Faults.{err_is}
 
 -- more may be shown
 if_some : (shown : Option ℕ) {P Q : ℕ → Type 0} → ((n : ℕ) → P n → Q n) → IfSome shown P → IfSome shown Q
@@ -43,10 +41,6 @@ no_refusal s (replies.Deleted keys quiet) is = refl
 no_refusal s (replies.Copied part etag modified) is = refl
 
 module _ {s : Shows} {before : ℕ} {a b : History} where
-  -- a fault is no refusal
-  pub stops_not : (end : Result Reply PlanFault) {fault : PlanFault} → IsErrAnd end (λ e. e ≡ fault) → Stops s before a b end
-  stops_not end {fault = fault} is = subst (Stops s before a b) (sym (err_is end fault is)) (record { so = tt })
-
   -- of one for a reason of which nothing is told nothing is asked
   pub stops_unshown : (end : Result Reply PlanFault) → IfOk end (λ reply. shown_by s reply ≡ None) → Stops s before a b end
   stops_unshown (Ok reply) unshown = record { so = subst (λ o. IfSome o (λ n. before + b.called ≤ a.called + n)) (sym unshown) tt }

@@ -27,3 +27,9 @@ returns-clause-asks g c =
 
 pub returns-clause-missing : goal.returns-clause-missing
 returns-clause-missing g c = stops_in_bucket _ c.find_recorded.ensures.there
+
+pub returns-in_default-clause-missing : goal.returns-in_default-clause-missing
+returns-in_default-clause-missing g c = λ missing. c.in_ok-head_bucket.ensures.asks.grows.calls
+
+pub returns-in_default-read_upload_id_to_find-clause-missing : goal.returns-in_default-read_upload_id_to_find-clause-missing
+returns-in_default-read_upload_id_to_find-clause-missing g c = λ missing. c.in_ok-head_bucket.ensures.asks.grows.calls
