@@ -1,5 +1,5 @@
 -- GET of the file of a segment, and PUT of it as a segment of an id that nothing names.
-use Rattle.std.specs.Prelude.{◌≡◌, ◌==◌, ◌<◌, ◌≤◌, ◌^◌, ℕ, true, cond, List, [], codes, length, Option, None, Some, Result, Ok, Err}
+use Rattle.std.specs.Prelude.{◌≡◌, ◌==◌, ◌<◌, ◌≤◌, ◌^◌, ℕ, true, cond, List, [], codes, length, None, Some, Ok, Err}
 use Rattle.std.specs.Option.{option_map, unwrap_or}
 use Rattle.std.specs.FinMap.{get}
 use Rattle.std.proofs.Common.{refl, sym, ap, subst, ◌∙◌, arith}
@@ -29,7 +29,6 @@ use Rattle.upload_records.proofs.lemmas.Beside.{segments_there}
 use Rattle.upload_records.proofs.lemmas.Settled.{settled_same}
 use Rattle.account_calls.specs.Calls.{GivenOf}
 use Rattle.account_calls.specs.Interpret.{stored_due}
-use Rattle.account_calls.specs.declared.fault.PlanFault.{PlanFault}
 use Rattle.account_calls.specs.declared.fault.PlanFault.TheVariants.{Inconsistent}
 use Rattle.account_calls.proofs.lemmas.Etags.{etag_agrees, part_etag}
 use Rattle.account_calls.proofs.lemmas.One.{IsReadingOf}

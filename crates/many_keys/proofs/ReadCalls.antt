@@ -10,7 +10,6 @@ use Rattle.swift_calls.specs.Bodies as bodies
 use Rattle.swift_calls.specs.History.{History, present}
 use Rattle.upload_records.specs.Consistent.{IsConsistent}
 use Rattle.upload_records.specs.Laws.{ObjectListed}
-use Rattle.upload_records.specs.Native.{IsSettled, s3_state}
 use Rattle.account_calls.specs.Answers.{listed_in}
 use Rattle.account_calls.specs.Calls.{Bound, always, by_account, Asks, Given, GivenOf, HasObject, Keeps}
 use Rattle.account_calls.specs.Interpret.{Gives}

@@ -1,11 +1,11 @@
 -- The sub-manifests of a source, one after another: what each lists, in a row, is the source's parts; and how their names are told from
 -- those of parts.
-use Rattle.std.specs.Prelude.{◌≡◌, ◌≤◌, ◌<◌, ◌+◌, ◌-◌, ◌*◌, ◌/◌, ◌^◌, min, ℕ, zero, suc, Bool, true, false, cond, nat_le, List, [], ◌∷◌, ◌++◌, length, take, drop, Option, None, Some}
+use Rattle.std.specs.Prelude.{◌≡◌, ◌≤◌, ◌<◌, ◌+◌, ◌-◌, ◌*◌, ◌/◌, ◌^◌, min, ℕ, zero, suc, Bool, true, false, cond, nat_le, List, [], ◌∷◌, ◌++◌, length, take, drop, Some}
 use Rattle.std.specs.Option.{unwrap_or}
 use Rattle.std.specs.FinMap.{get}
 use Rattle.std.proofs.Common.{refl, sym, ap, subst, ◌∙◌, arith, append_assoc}
 use Rattle.std.proofs.Math.Seq.{take-append_seam}
-use Rattle.std.proofs.lemmas.List.{length-append, length-take, take_all}
+use Rattle.std.proofs.lemmas.List.{length-append, take_all}
 use Rattle.gate_base.specs.Maps.{Names}
 use Rattle.s3_names.specs.Id.{id_digits, id_of}
 use Rattle.s3_names.proofs.lemmas.Ids.{id_reads_back, length-id_digits}
@@ -14,7 +14,7 @@ use Rattle.slo_manifest.specs.declared.manifest.TheConstants.{MOST_SEGMENTS}
 use Rattle.slo_manifest.specs.declared.Segment.{Segment}
 use Rattle.swift_calls.specs.Account.{SwiftObject}
 use Rattle.swift_calls.specs.Bodies as bodies
-use Rattle.upload_records.specs.Consistent.{AreParts, HasSubManifests, IsPart, IsSegment, is_part, is_sub_manifest, IsSegmentList}
+use Rattle.upload_records.specs.Consistent.{AreParts, HasSubManifests, IsSegment, is_part, is_sub_manifest, IsSegmentList}
 use Rattle.upload_records.specs.Layout.{five_digits, segment_name, sub_manifest_name}
 use Rattle.upload_records.specs.Native.{listing_by, run, sub_manifests, sub_segment, sub_segments}
 use Rattle.upload_records.proofs.lemmas.Subs.{length-sub_segments, take_run}

@@ -17,7 +17,7 @@ use Rattle.s3_machine.specs.Uploads.{greatest_part, most_parts, rises_from}
 use Rattle.s3_machine.specs.declared.operation.ObjectHead.{ObjectHead}
 use Rattle.s3_machine.specs.declared.operation.Replaced.{Replaced}
 use Rattle.slo_manifest.specs.declared.Segment.{Segment}
-use Rattle.swift_calls.specs.Account.{SwiftObject, SwiftAccount, files}
+use Rattle.swift_calls.specs.Account.{SwiftObject, SwiftAccount, files, find_object}
 use Rattle.swift_calls.specs.Bodies.{etag_text, plain_bytes}
 use Rattle.swift_calls.specs.declared.account.Content.TheVariants.{Plain, Segments}
 use Rattle.swift_calls.specs.declared.calls.SwiftReply.{SwiftReply}
