@@ -283,7 +283,10 @@ plans_wider wider plans = record {
 all_counted : (S : Names SwiftObject) (list : List Segment) → length list ≤ listed_twice S list
 unfolding listed_twice
 all_counted S [] = omega arith
-all_counted S (s ∷ list) = let later = all_counted S list in omega (arith, later)
+all_counted S (s ∷ list) =
+    let later = all_counted S list in
+    let first : listed_twice S (s ∷ list) ≡ 1 + length (listed_in (get S s.name)) + listed_twice S list = refl in
+    omega (arith, later, first)
 
 subs_counted : (S : Names SwiftObject) (list : List Segment) → subs_in list ≤ listed_twice S list
 subs_counted S list = by (lists_subs list) (all_counted S list)

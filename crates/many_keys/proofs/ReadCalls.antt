@@ -72,6 +72,10 @@ asks_given {a = a} {given = given} {given' = given'} {P = P} gives asks =
     (λ old new sound same has left. subst given (sym left) (gives old sound has))
     (λ old new last y sound has left told. subst (λ t. P t last y) left told)
 
+-- a list that isn't one is no failure
+no_failure : {T : Type 0} (result : Result T PlanFault) → result ≡ Err Inconsistent → result ≢ Err fault.Failed
+no_failure result e failed = cc
+
 -- ---- the lists of an object
 
 module _ {bucket key etag : List ℕ} {size : ℕ} where
@@ -132,7 +136,7 @@ module _ {bucket key etag : List ℕ} {size : ℕ} where
       pub too_many : (h : History) (result : Result Cut PlanFault) → result ≡ Err Inconsistent → 10 < length listed
           → Asks (always (length listed)) h h (GivenOf (HasListed bucket key etag size listed)) (TellsOf (TellsCut bucket key)) result
       too_many h result e many =
-          asks_here (length listed) h (GivenOf (HasListed bucket key etag size listed)) (TellsCut bucket key) result (Err Inconsistent) (inr e) (λ failed. let no_more : Err {T = Cut} Inconsistent ≡ Err fault.Failed = sym e ∙ failed in cc)
+          asks_here (length listed) h (GivenOf (HasListed bucket key etag size listed)) (TellsCut bucket key) result (Err Inconsistent) (inr e) (no_failure result e)
           (λ tree sound given. absurd (let few = subs_few law tree bucket key etag size listed is sound given are in omega (arith, few, many)))
 
       gives_subs : (tree : SwiftAccount) → IsConsistent tree → GivenOf (HasListed bucket key etag size listed) tree → GivenOf (HasSubs bucket (list_id listed) (length listed)) tree

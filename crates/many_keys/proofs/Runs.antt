@@ -101,18 +101,27 @@ module _ (S : Names SwiftObject) (folder id : List ℕ) (parts : List Segment) w
   twice-append : (xs ys : List Segment) → listed_twice S (xs ++ ys) ≡ listed_twice S xs + listed_twice S ys
   unfolding listed_twice
   twice-append [] ys = omega arith
-  twice-append (x ∷ xs) ys = let later = twice-append xs ys in omega (arith, later)
+  twice-append (x ∷ xs) ys =
+      let later = twice-append xs ys in
+      let both : listed_twice S (x ∷ (xs ++ ys)) ≡ 1 + length (listed_in (get S x.name)) + listed_twice S (xs ++ ys) = refl in
+      let first : listed_twice S (x ∷ xs) ≡ 1 + length (listed_in (get S x.name)) + listed_twice S xs = refl in
+      omega (arith, later, both, first)
 
   twice_subs : (n : ℕ) → HasSubManifests S id parts n → listed_twice S (sub_segments folder id parts n) ≡ length (take (MOST_SEGMENTS * n) parts) + n
   unfolding sub_segments listed_twice
-  twice_subs zero subs = let none = ap length (no_run parts) in omega (arith, none)
+  twice_subs zero subs =
+      let none : length (take (MOST_SEGMENTS * 0) parts) ≡ 0 = ap length (no_run parts) in
+      let made : listed_twice S (sub_segments folder id parts zero) ≡ 0 = refl in
+      omega (arith, none, made)
   twice_subs (suc n) subs =
       let before = twice_subs n (λ k below. subs k (omega (arith, below))) in
       let both = twice-append (sub_segments folder id parts n) (sub_segment folder id n (run n parts) ∷ []) in
       let last = ap length (sub_lists n (suc n) subs (omega arith)) in
       let longer : length (take (MOST_SEGMENTS * suc n) parts) ≡ length (take (MOST_SEGMENTS * n) parts) + length (run n parts)
       = ap length (take_run n parts) ∙ length-append (take (MOST_SEGMENTS * n) parts) (run n parts) in
-      omega (arith, before, both, last, longer)
+      let made : listed_twice S (sub_segments folder id parts (suc n)) ≡ listed_twice S (sub_segments folder id parts n ++ sub_segment folder id n (run n parts) ∷ []) = refl in
+      let one : listed_twice S (sub_segment folder id n (run n parts) ∷ []) ≡ 1 + length (listed_in (get S (sub_manifest_name id (n + 1)))) + 0 = refl in
+      omega (arith, before, both, last, longer, made, one)
 
   twice_parts : (above : ℕ) (list : List Segment) → AreParts S folder id above list → listed_twice S list ≡ length list
   unfolding listed_twice
@@ -120,11 +129,12 @@ module _ (S : Names SwiftObject) (folder id : List ℕ) (parts : List Segment) w
   twice_parts above (s ∷ list) (number, low, high, listed, rest) =
       let later = twice_parts number list rest in
       let none : length (listed_in (get S s.name)) ≡ 0 = ap (λ n. length (listed_in (get S n))) listed.named ∙ ap (λ o. length (listed_in o)) listed.there ∙ ap (λ c. length (unwrap_or (bodies.listed_in c) [])) listed.own in
-      omega (arith, later, none)
+      let first : listed_twice S (s ∷ list) ≡ 1 + length (listed_in (get S s.name)) + listed_twice S list = refl in
+      omega (arith, later, none, first)
 
 -- ---- the first of them
 
-pub first_name : List Segment → List ℕ
+unfoldable pub first_name : List Segment → List ℕ
 first_name [] = []
 first_name (s ∷ list) = s.name
 
