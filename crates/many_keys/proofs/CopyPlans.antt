@@ -152,15 +152,15 @@ module _ (bucket key : List ℕ) (acl : Acl) (id : ℕ) (from_bucket from_key : 
   filled_may_put : (cut : Cut) (old new : SwiftAccount) → s3_state new ≡ s3_state old → MayFillCut bucket acl id from_bucket from_key head cut old → CopiesFirst bucket id from_bucket cut.id cut.pieces moment old new list
       → MayPut acl from_bucket from_key replaced as_put 0 new
   filled_may_put cut old new same has told =
-      let object = object_of_head (object_at (get (s3_state old) from_bucket) from_key) head has.cut.found.source in
+      let object = object_of_head (object_at (get (s3_state old) from_bucket) from_key) head has.has.found.source in
       let o = object.0 in
       record {
-        listed = subst (λ s. TellsBucket bucket s (Some acl)) (sym same) has.cut.found.listed;
+        listed = subst (λ s. TellsBucket bucket s (Some acl)) (sym same) has.has.found.listed;
         copy = record {
-          copied = record { unnamed = told.unnamed; parts = told.parts; subs = λ n below. absurd (omega (arith, below)) };
+          stands = record { unnamed = told.unnamed; parts = told.parts; subs = λ n below. absurd (omega (arith, below)) };
           object = o;
           found = ap (λ s. object_at (get s from_bucket) from_key) same ∙ object.1;
-          same = copy_is replaced o head (sealed_bytes (files new (segments_name bucket)) (id_digits id) list) moment object.2 (told.bytes ∙ has.cut.told.bytes o object.1);
+          same = copy_is replaced o head (sealed_bytes (files new (segments_name bucket)) (id_digits id) list) moment object.2 (told.bytes ∙ has.has.told.bytes o object.1);
         };
       }
 
@@ -173,7 +173,7 @@ module _ (bucket key : List ℕ) (acl : Acl) (id : ℕ) (from_bucket from_key : 
       record {
         listed = has.found.listed;
         copy = record {
-          copied = record {
+          stands = record {
             unnamed = has.unnamed;
             parts = subst (λ l. AreSealedParts (files new (segments_name bucket)) (id_digits id) l) (sym none) tt;
             subs = λ n below. absurd (let no_subs : sealed_sub_manifests as_put ≡ 0 = ap (λ l. sub_manifests (length (part_segments (segments_name bucket) (id_digits id) (filled_parts l)))) none in omega (arith, below, no_subs));
@@ -232,7 +232,7 @@ asks_apart {bucket = bucket} {from_bucket = from_bucket} {acl = acl} {head = hea
 fill_cut : {bucket from_bucket from_key : List ℕ} {acl : Acl} {head : ObjectHead} {cut : Cut} {id : ℕ} {old new : SwiftAccount} → HasCut bucket acl from_bucket from_key head cut old → TellsOf (IsFree bucket from_bucket cut) old new id
     → MayFillCut bucket acl id from_bucket from_key head cut new
 fill_cut {bucket = bucket} {from_bucket = from_bucket} {from_key = from_key} {acl = acl} {head = head} {cut = cut} {id = id} has tells =
-    subst (MayFillCut bucket acl id from_bucket from_key head cut) (sym tells.same) (record { unnamed = tells.of_account.0; apart = tells.of_account.1; cut = has })
+    subst (MayFillCut bucket acl id from_bucket from_key head cut) (sym tells.same) (record { unnamed = tells.of_account.0; apart = tells.of_account.1; has = has })
 
 -- ---- the plans
 
@@ -263,7 +263,7 @@ abbrev Found : List ℕ → Acl → List ℕ → List ℕ → ObjectHead → Swi
 Found bucket list from_bucket from_key head tree = IsFoundSource bucket list from_bucket from_key head (s3_state tree)
 
 may_copy : {bucket from_bucket from_key : List ℕ} {list : Acl} {head : ObjectHead} {cut : Cut} {id : ℕ} (tree : SwiftAccount) → MayFillCut bucket list id from_bucket from_key head cut tree → MayCopy bucket id from_bucket cut.id cut.pieces tree
-may_copy tree fill = record { unnamed = fill.unnamed; apart = fill.apart; here = fill.cut.told.here }
+may_copy tree fill = record { unnamed = fill.unnamed; apart = fill.apart; here = fill.has.told.here }
 
 has_object : {bucket from_bucket from_key : List ℕ} {list : Acl} {head : ObjectHead} {h : History} → Met (Given (IsFoundSource bucket list from_bucket from_key head)) h → Met (Given (HasObject from_bucket from_key head.etag head.size)) h
 has_object {head = head} met = record { observable = met.observable; sound = met.sound; has = record { settled = met.has.settled; is = (head, met.has.is.source, refl, refl) } }
@@ -370,7 +370,7 @@ with_bytes s bytes = record { bytes = bytes; etag = s.etag; content_type = s.con
 
 module _ (s : Sealed) {settings : Settings} (acl : Option Acl) (list : Acl) (from_bucket from_key : List ℕ) (replaced : Option Replaced) (label : Label) where
   may_put_of : (tree : SwiftAccount) → MayPut list from_bucket from_key replaced s 0 tree → HasCopied s 0 tree
-  may_put_of tree may = may.copy.copied
+  may_put_of tree may = may.copy.stands
 
   -- they were put, and the copy's file is
   pub subs_go_on : {a b c : History} {now : Settings} {end : Result Reply PlanFault} → now ≡ settings → Asks (always (sealed_sub_manifests s)) a b (GivenOf (HasCopied s 0)) (LeavesCopied s (sealed_sub_manifests s)) (Ok tt)
@@ -382,7 +382,7 @@ module _ (s : Sealed) {settings : Settings} (acl : Option Acl) (list : Acl) (fro
       (λ may told. record {
         listed = subst (λ state. TellsBucket s.bucket state (Some list)) (sym told.1) may.listed;
         copy = record {
-          copied = told.0.copied;
+          stands = told.0.copied;
           object = may.copy.object;
           found = ap (λ state. object_at (get state from_bucket) from_key) told.1 ∙ may.copy.found;
           same = ap (with_bytes s) told.0.same ∙ may.copy.same;

@@ -89,10 +89,10 @@ module _ {bucket key etag : List ℕ} {size : ℕ} where
     settled = asks.settled;
   }
 
-  pub list_then : (listed : List Segment) {a b c : History} {result : Result Cut PlanFault} → Asks (always 1) a b (Given (HasObject bucket key etag size)) (TellsOf (ListsSegments bucket key)) (Ok listed)
-      → Asks (always (subs_in listed)) b c (GivenOf (HasListed bucket key etag size listed)) (TellsOf (TellsCut bucket key)) result
+  pub list_then : (listed : List Segment) {walked : List Segment} {a b c : History} {result : Result Cut PlanFault} → walked ≡ listed → Asks (always 1) a b (Given (HasObject bucket key etag size)) (TellsOf (ListsSegments bucket key)) (Ok listed)
+      → Asks (always (subs_in walked)) b c (GivenOf (HasListed bucket key etag size walked)) (TellsOf (TellsCut bucket key)) result
       → Asks (by_account (1 + subs_listed (present a) bucket key)) a c (Given (HasObject bucket key etag size)) (TellsOf (TellsCut bucket key)) result
-  list_then listed {a = a} {b = b} {c = c} {result = result} first then = record {
+  list_then listed {a = a} {b = b} {c = c} {result = result} walks first rest = record {
     grows = record {
       on = both.grows.on;
       calls = λ met.
@@ -106,6 +106,9 @@ module _ {bucket key etag : List ℕ} {size : ℕ} where
     settled = both.settled;
   }
     where
+      then : Asks (always (subs_in listed)) b c (GivenOf (HasListed bucket key etag size listed)) (TellsOf (TellsCut bucket key)) result
+      then = subst (λ (l : List Segment). Asks (always (subs_in l)) b c (GivenOf (HasListed bucket key etag size l)) (TellsOf (TellsCut bucket key)) result) walks rest
+
       both : Asks (always (1 + subs_in listed)) a c (Given (HasObject bucket key etag size)) (TellsOf (TellsCut bucket key)) result
       both = asks_then {R = TellsOf (TellsCut bucket key)} (omega arith) first then
           (λ old new sound same has told. subst (GivenOf (HasListed bucket key etag size listed)) (sym told.same) (record { settled = has.settled; is = record { object = has.is; lists = told.of_account } }))

@@ -1,4 +1,5 @@
-use Rattle.std.proofs.Common.{refl, ◌∙◌, arith}
+use Rattle.std.proofs.Common.{◌++◌, refl, ap, ◌∙◌, arith}
+use Rattle.many_keys.specs.CopiedLists.{cut_of}
 use Rattle.many_keys.proofs.CutCalls.{runs_fault, runs_more, runs_none, runs_read_all, runs_unkept}
 use Rattle.many_keys.proofs.manifests.get_sub_manifests.Goals as goal
 
@@ -18,7 +19,7 @@ loop-n-preserved g c = record {
     store = c.in_ok-listed.ensures.stays.store ∙ c.loop-n.invariant.stays.store;
     settings = c.in_ok-listed.ensures.stays.settings ∙ c.loop-n.invariant.stays.settings;
   };
-  asks = runs_more c.loop-n-test.true c.loop-n.invariant.asks _ c.in_ok-listed.ensures.asks c.in_ok-add_pieces.ensures;
+  asks = runs_more c.loop-n-test.true c.loop-n.invariant.asks _ c.in_ok-listed.ensures.asks (c.in_ok-add_pieces.ensures ∙ ap (λ list. _ ++ cut_of list) c.as_slice.ensures);
 }
 
 pub returns-clause-asks : goal.returns-clause-asks
