@@ -21,7 +21,7 @@ call-requires g c = (
 )
 
 pub returns-in_err-reply-clause-asks : goal.returns-in_err-reply-clause-asks
-returns-in_err-reply-clause-asks g c = asked_of_in_vain (piece_reads (c.in_ok-container.ensures ∙ ap segments_name c.as_slice.ensures) c.in_ok-name.ensures) c.in_err-reply.ensures.calls _ c.from_residual-in_err-reply.ensures.1
+returns-in_err-reply-clause-asks g c = asked_of_in_vain (piece_reads c.args.bucket.now c.args.id c.args.piece (c.in_ok-container.ensures ∙ ap segments_name c.as_slice.ensures) c.in_ok-name.ensures) c.in_err-reply.ensures.calls _ c.from_residual-in_err-reply.ensures.1
 
 pub returns-clause-asks : goal.returns-clause-asks
-returns-clause-asks g c = asked_of (piece_reads (c.in_ok-container.ensures ∙ ap segments_name c.as_slice.ensures) c.in_ok-name.ensures) c.in_ok-reply.ensures.calls _ (inr c.piece_in_reply.ensures.due) c.piece_in_reply.ensures.own
+returns-clause-asks g c = asked_of (piece_reads c.args.bucket.now c.args.id c.args.piece (c.in_ok-container.ensures ∙ ap segments_name c.as_slice.ensures) c.in_ok-name.ensures) c.in_ok-reply.ensures.calls _ (inr c.piece_in_reply.ensures.due) c.piece_in_reply.ensures.own
