@@ -6,6 +6,7 @@ use Rattle.std.specs.FinMap.{get}
 use Rattle.std.proofs.Common.{refl, sym, ap, subst, ◌∙◌, arith, true≢false}
 use Rattle.std.proofs.lemmas.Bool.{le-leb, leb-true}
 use Rattle.std.proofs.lemmas.List.{length-map}
+use Rattle.gate_base.specs.Maps.{Names}
 use Rattle.gate_base.specs.Told.{moment_limit}
 use Rattle.s3_names.specs.declared.acl.Acl.{Acl}
 use Rattle.s3_names.specs.Bucket.{is_bucket}
@@ -23,7 +24,8 @@ use Rattle.s3_machine.specs.declared.operation.Replaced.{Replaced}
 use Rattle.s3_machine.specs.declared.operation.Reply.{Reply}
 use Rattle.s3_machine.specs.declared.operation.Settings.{Settings}
 use Rattle.slo_manifest.specs.declared.manifest.TheConstants.{MOST_SEGMENTS}
-use Rattle.swift_calls.specs.Account.{SwiftAccount, SwiftObject, files}
+use Rattle.slo_manifest.specs.declared.Segment.{Segment}
+use Rattle.swift_calls.specs.Account.{SwiftAccount, SwiftObject, files, find_object}
 use Rattle.swift_calls.specs.History.{History, present}
 use Rattle.swift_marks.specs.Tag.{is_etag}
 use Rattle.upload_texts.specs.Sealed.{has_sealed_text, part_fits_sealed_text}
@@ -33,7 +35,7 @@ use Rattle.upload_records.specs.Consistent.{AreSealedParts}
 use Rattle.upload_records.specs.Laws.{IsUnused, UnusedIsAbandoned}
 use Rattle.upload_records.specs.Layout.{segment_name, segments_name}
 use Rattle.upload_records.specs.Native.{filled_parts, listed_of, object_at, part_segment, part_segments, s3_state, sealed_bytes, sealed_segments, sealed_sub_manifests, sub_manifests}
-use Rattle.account_calls.specs.Answers.{listed_by, records_of, segments_of}
+use Rattle.account_calls.specs.Answers.{listed_by, listed_in, listed_twice, records_of, segments_of}
 use Rattle.account_calls.specs.Calls.{Bound, always, by_account, Asks, Given, GivenOf, HasObject, Met, TellsBucket}
 use Rattle.account_calls.specs.Listing.{TellsOf}
 use Rattle.account_calls.specs.Plan.{Plans}
@@ -62,10 +64,12 @@ use Rattle.many_keys.specs.CopiedLists.{
   MayPut,
   TellsCut,
   is_cut,
+  lists_subs,
   piece_in,
   pieces_ascend_from,
   sealed_copy,
   size_of_cut,
+  subs_in,
   subs_listed,
 }
 use Rattle.many_keys.specs.declared.cut.Cut.{Cut}
@@ -148,15 +152,15 @@ module _ (bucket key : List ℕ) (acl : Acl) (id : ℕ) (from_bucket from_key : 
   filled_may_put : (cut : Cut) (old new : SwiftAccount) → s3_state new ≡ s3_state old → MayFillCut bucket acl id from_bucket from_key head cut old → CopiesFirst bucket id from_bucket cut.id cut.pieces moment old new list
       → MayPut acl from_bucket from_key replaced as_put 0 new
   filled_may_put cut old new same has told =
-      let object = object_of_head (object_at (get (s3_state old) from_bucket) from_key) head has.cut.found.source in
+      let object = object_of_head (object_at (get (s3_state old) from_bucket) from_key) head has.has.found.source in
       let o = object.0 in
       record {
-        listed = subst (λ s. TellsBucket bucket s (Some acl)) (sym same) has.cut.found.listed;
+        listed = subst (λ s. TellsBucket bucket s (Some acl)) (sym same) has.has.found.listed;
         copy = record {
-          copied = record { unnamed = told.unnamed; parts = told.parts; subs = λ n below. absurd (omega (arith, below)) };
+          stands = record { unnamed = told.unnamed; parts = told.parts; subs = λ n below. absurd (omega (arith, below)) };
           object = o;
           found = ap (λ s. object_at (get s from_bucket) from_key) same ∙ object.1;
-          same = copy_is replaced o head (sealed_bytes (files new (segments_name bucket)) (id_digits id) list) moment object.2 (told.bytes ∙ has.cut.told.bytes o object.1);
+          same = copy_is replaced o head (sealed_bytes (files new (segments_name bucket)) (id_digits id) list) moment object.2 (told.bytes ∙ has.has.told.bytes o object.1);
         };
       }
 
@@ -169,7 +173,7 @@ module _ (bucket key : List ℕ) (acl : Acl) (id : ℕ) (from_bucket from_key : 
       record {
         listed = has.found.listed;
         copy = record {
-          copied = record {
+          stands = record {
             unnamed = has.unnamed;
             parts = subst (λ l. AreSealedParts (files new (segments_name bucket)) (id_digits id) l) (sym none) tt;
             subs = λ n below. absurd (let no_subs : sealed_sub_manifests as_put ≡ 0 = ap (λ l. sub_manifests (length (part_segments (segments_name bucket) (id_digits id) (filled_parts l)))) none in omega (arith, below, no_subs));
@@ -228,7 +232,7 @@ asks_apart {bucket = bucket} {from_bucket = from_bucket} {acl = acl} {head = hea
 fill_cut : {bucket from_bucket from_key : List ℕ} {acl : Acl} {head : ObjectHead} {cut : Cut} {id : ℕ} {old new : SwiftAccount} → HasCut bucket acl from_bucket from_key head cut old → TellsOf (IsFree bucket from_bucket cut) old new id
     → MayFillCut bucket acl id from_bucket from_key head cut new
 fill_cut {bucket = bucket} {from_bucket = from_bucket} {from_key = from_key} {acl = acl} {head = head} {cut = cut} {id = id} has tells =
-    subst (MayFillCut bucket acl id from_bucket from_key head cut) (sym tells.same) (record { unnamed = tells.of_account.0; apart = tells.of_account.1; cut = has })
+    subst (MayFillCut bucket acl id from_bucket from_key head cut) (sym tells.same) (record { unnamed = tells.of_account.0; apart = tells.of_account.1; has = has })
 
 -- ---- the plans
 
@@ -259,7 +263,7 @@ abbrev Found : List ℕ → Acl → List ℕ → List ℕ → ObjectHead → Swi
 Found bucket list from_bucket from_key head tree = IsFoundSource bucket list from_bucket from_key head (s3_state tree)
 
 may_copy : {bucket from_bucket from_key : List ℕ} {list : Acl} {head : ObjectHead} {cut : Cut} {id : ℕ} (tree : SwiftAccount) → MayFillCut bucket list id from_bucket from_key head cut tree → MayCopy bucket id from_bucket cut.id cut.pieces tree
-may_copy tree fill = record { unnamed = fill.unnamed; apart = fill.apart; here = fill.cut.told.here }
+may_copy tree fill = record { unnamed = fill.unnamed; apart = fill.apart; here = fill.has.told.here }
 
 has_object : {bucket from_bucket from_key : List ℕ} {list : Acl} {head : ObjectHead} {h : History} → Met (Given (IsFoundSource bucket list from_bucket from_key head)) h → Met (Given (HasObject from_bucket from_key head.etag head.size)) h
 has_object {head = head} met = record { observable = met.observable; sound = met.sound; has = record { settled = met.has.settled; is = (head, met.has.is.source, refl, refl) } }
@@ -274,6 +278,22 @@ plans_wider wider plans = record {
   effect = plans.effect;
   knows = plans.knows;
 }
+
+-- sub-manifests are listed too
+all_counted : (S : Names SwiftObject) (list : List Segment) → length list ≤ listed_twice S list
+unfolding listed_twice
+all_counted S [] = omega arith
+all_counted S (s ∷ list) =
+    let later = all_counted S list in
+    let first : listed_twice S (s ∷ list) ≡ 1 + length (listed_in (get S s.name)) + listed_twice S list = refl in
+    omega (arith, later, first)
+
+subs_counted : (S : Names SwiftObject) (list : List Segment) → subs_in list ≤ listed_twice S list
+subs_counted S list = by (lists_subs list) (all_counted S list)
+  where
+    by : (t : Bool) → length list ≤ listed_twice S list → cond t (length list) 0 ≤ listed_twice S list
+    by true few = few
+    by false few = omega arith
 
 module _ {bucket from_bucket from_key : List ℕ} {list : Acl} {head : ObjectHead} {op : Op} {label : Label} {settings : Settings} where
   -- the segments weren't copied
@@ -304,9 +324,12 @@ module _ {bucket from_bucket from_key : List ℕ} {list : Acl} {head : ObjectHea
       goes_on_from {given = HasCut bucket list from_bucket from_key head cut} (λ met. met) kept (asks_apart law is proper asks) plans (λ has told. fill_cut has told) (λ told. omega arith)
 
   -- the lists of the segments weren't read
-  pub cut_in_vain : {n : ℕ} {most : ℕ} {a b : History} {f : PlanFault} → n ≤ most → Asks (by_account n) a b (Given (HasObject from_bucket from_key head.etag head.size)) (TellsOf (TellsCut from_bucket from_key)) (Err f)
-      → (end : Result Reply PlanFault) → IsErrAnd end (λ e. e ≡ f) → Plans (by_account most) a b settings (Given (IsFoundSource bucket list from_bucket from_key head)) op label Settled end
-  cut_in_vain {n = n} within asks end is = asked_in_vain (by_account n) within has_object asks end is
+  pub cut_in_vain : {a b : History} {f : PlanFault} → Asks (by_account (1 + subs_listed (present a) from_bucket from_key)) a b (Given (HasObject from_bucket from_key head.etag head.size)) (TellsOf (TellsCut from_bucket from_key)) (Err f)
+      → (end : Result Reply PlanFault) → IsErrAnd end (λ e. e ≡ f)
+      → Plans (by_account (4 + 2 * (records_of (present a) bucket + segments_of (present a) bucket) + 2 * listed_by (present a) from_bucket from_key)) a b settings (Given (IsFoundSource bucket list from_bucket from_key head)) op label Settled end
+  cut_in_vain {a = a} asks end is =
+      asked_in_vain (by_account (1 + subs_listed (present a) from_bucket from_key))
+      (let few = subs_counted (files (present a) (segments_name from_bucket)) (listed_in (find_object (present a) from_bucket from_key)) in omega (arith, few)) has_object asks end is
 
   -- they were, and the copy goes on
   pub cut_goes_on : (cut : Cut) {a b c : History} {now : Settings} {end : Result Reply PlanFault} → now ≡ settings
@@ -320,47 +343,49 @@ module _ {bucket from_bucket from_key : List ℕ} {list : Acl} {head : ObjectHea
 
 -- ---- the sub-manifests of the copy
 
--- segments that are fewer have no more sub-manifests
-fewer_subs : (m n : ℕ) → m ≤ n → sub_manifests m ≤ sub_manifests n
-fewer_subs m n low = by (nat_le m MOST_SEGMENTS) (nat_le n MOST_SEGMENTS) refl refl
-  where
-    by : (t u : Bool) → nat_le m MOST_SEGMENTS ≡ t → nat_le n MOST_SEGMENTS ≡ u → cond t 0 ((m + 999) / MOST_SEGMENTS) ≤ cond u 0 ((n + 999) / MOST_SEGMENTS)
-    by true u few is = omega arith
-    by false true many few = absurd (let high = leb-true n MOST_SEGMENTS few in let never = le-leb m MOST_SEGMENTS (omega (arith, low, high)) in true≢false (sym never ∙ many))
-    by false false many is = omega (arith, low)
-
-filled_few : (list : List SealedPart) → length (filled_parts list) ≤ length list
-filled_few [] = omega arith
-filled_few (p ∷ list) = by (nat_lt 0 p.size) (filled_few list)
+-- how many parts of a list aren't empty
+few_filled : (list : List SealedPart) → length (filled_parts list) ≤ length list
+few_filled [] = omega arith
+few_filled (p ∷ list) = by (nat_lt 0 p.size) (few_filled list)
   where
     by : (t : Bool) → length (filled_parts list) ≤ length list → length (cond t (p ∷ filled_parts list) (filled_parts list)) ≤ suc (length list)
     by true few = omega (arith, few)
     by false few = omega (arith, few)
 
+more_runs : (n k : ℕ) (t u : Bool) → nat_le n MOST_SEGMENTS ≡ t → nat_le k MOST_SEGMENTS ≡ u → n ≤ k → cond t 0 ((n + 999) / MOST_SEGMENTS) ≤ cond u 0 ((k + 999) / MOST_SEGMENTS)
+more_runs n k true u few most less = omega arith
+more_runs n k false true few most less = absurd (let far : nat_le n MOST_SEGMENTS ≡ true = le-leb n MOST_SEGMENTS (let near = leb-true k MOST_SEGMENTS most in omega (arith, near, less)) in true≢false (sym far ∙ few))
+more_runs n k false false few most less = omega (arith, less)
+
 -- it has no more than its source
-pub few_subs : (s : Sealed) (n : ℕ) → n ≡ length s.list → sealed_sub_manifests s ≤ sub_manifests n
-few_subs s n same =
-    let few = filled_few s.list in
-    let long = length-map (filled_parts s.list) (part_segment (segments_name s.bucket) (id_digits s.id)) in
-    fewer_subs (length (sealed_segments s)) n (omega (arith, same, few, long))
+few_subs : (s : Sealed) (n : ℕ) → length s.list ≡ n → sealed_sub_manifests s ≤ sub_manifests n
+few_subs s n as_many =
+    let counted : length (sealed_segments s) ≡ length (filled_parts s.list) = length-map (filled_parts s.list) (part_segment (segments_name s.bucket) (id_digits s.id)) in
+    let filled = few_filled s.list in
+    more_runs (length (sealed_segments s)) n (nat_le (length (sealed_segments s)) MOST_SEGMENTS) (nat_le n MOST_SEGMENTS) refl refl (omega (arith, counted, filled, as_many))
+
+-- the object of these bytes
+with_bytes : Sealed → List ℕ → Object
+with_bytes s bytes = record { bytes = bytes; etag = s.etag; content_type = s.content_type; meta = s.meta; modified = s.moment }
 
 module _ (s : Sealed) {settings : Settings} (acl : Option Acl) (list : Acl) (from_bucket from_key : List ℕ) (replaced : Option Replaced) (label : Label) where
-  abbrev may_put_of : (tree : SwiftAccount) → MayPut list from_bucket from_key replaced s 0 tree → HasCopied s 0 tree
-  may_put_of tree may = may.copy.copied
+  may_put_of : (tree : SwiftAccount) → MayPut list from_bucket from_key replaced s 0 tree → HasCopied s 0 tree
+  may_put_of tree may = may.copy.stands
 
   -- they were put, and the copy's file is
   pub subs_go_on : {a b c : History} {now : Settings} {end : Result Reply PlanFault} → now ≡ settings → Asks (always (sealed_sub_manifests s)) a b (GivenOf (HasCopied s 0)) (LeavesCopied s (sealed_sub_manifests s)) (Ok tt)
       → Plans (always 1) b c now (GivenOf (MayPut list from_bucket from_key replaced s (sealed_sub_manifests s))) (CopyObject s.bucket s.key acl from_bucket from_key replaced) label Settled end
       → Plans (always (sealed_sub_manifests s + 1)) a c settings (GivenOf (MayPut list from_bucket from_key replaced s 0)) (CopyObject s.bucket s.key acl from_bucket from_key replaced) label Settled end
+  unfolding with_bytes
   subs_go_on kept asks plans =
       goes_on_from {given = MayPut list from_bucket from_key replaced s 0} (met_within may_put_of) kept (asks_same_state asks) plans
       (λ may told. record {
         listed = subst (λ state. TellsBucket s.bucket state (Some list)) (sym told.1) may.listed;
         copy = record {
-          copied = told.0.copied;
+          stands = told.0.copied;
           object = may.copy.object;
           found = ap (λ state. object_at (get state from_bucket) from_key) told.1 ∙ may.copy.found;
-          same = ap (λ bytes. record { bytes = bytes; etag = s.etag; content_type = s.content_type; meta = s.meta; modified = s.moment }) told.0.same ∙ may.copy.same;
+          same = ap (with_bytes s) told.0.same ∙ may.copy.same;
         };
       })
       (omega arith)
@@ -383,7 +408,7 @@ module _ (bucket key from_bucket from_key : List ℕ) (acl : Option Acl) (list :
   copy_goes_on {id = id} cut {walked = walked} {a = a} {b = b} {c = c} {now = now} parts {end = end} same kept are asks e puts =
       let here : Asks (always (2 * length cut.pieces)) a b (GivenOf (MayCopy bucket id from_bucket cut.id cut.pieces)) (CopiesFirst bucket id from_bucket cut.id cut.pieces label.moment) (Ok parts)
       = subst (λ l. Asks (always (2 * length l)) a b (GivenOf (MayCopy bucket id from_bucket cut.id l)) (CopiesFirst bucket id from_bucket cut.id l label.moment) (Ok parts)) same asks in
-      let few = few_subs (sealed_copy bucket key id replaced head parts label.moment) (length cut.pieces) (ap length (sym same ∙ sym are.pieces) ∙ length-map parts piece_in) in
+      let few = few_subs (sealed_copy bucket key id replaced head parts label.moment) (length cut.pieces) (sym (length-map parts piece_in) ∙ ap length (are.pieces ∙ same)) in
       goes_on_from {given = MayFillCut bucket list id from_bucket from_key head cut} (met_within may_copy) kept (asks_same_state here) (subst (PutsParts b c now end) e puts acl list from_bucket from_key replaced label other onto refl)
       (λ fill told. filled_may_put bucket key list id from_bucket from_key replaced head parts label.moment cut _ _ told.1 fill told.0) (omega (arith, few))
 

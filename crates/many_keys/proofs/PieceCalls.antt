@@ -1,5 +1,5 @@
 -- GET of the file of a segment, and PUT of it as a segment of an id that nothing names.
-use Rattle.std.specs.Prelude.{◌≡◌, ◌==◌, ◌<◌, ◌≤◌, ◌^◌, ℕ, true, cond, List, [], codes, length, Option, None, Some, Result, Ok, Err}
+use Rattle.std.specs.Prelude.{◌≡◌, ◌==◌, ◌<◌, ◌≤◌, ◌^◌, ℕ, true, cond, List, [], codes, length, None, Some, Ok, Err}
 use Rattle.std.specs.Option.{option_map, unwrap_or}
 use Rattle.std.specs.FinMap.{get}
 use Rattle.std.proofs.Common.{refl, sym, ap, subst, ◌∙◌, arith}
@@ -29,7 +29,6 @@ use Rattle.upload_records.proofs.lemmas.Beside.{segments_there}
 use Rattle.upload_records.proofs.lemmas.Settled.{settled_same}
 use Rattle.account_calls.specs.Calls.{GivenOf}
 use Rattle.account_calls.specs.Interpret.{stored_due}
-use Rattle.account_calls.specs.declared.fault.PlanFault.{PlanFault}
 use Rattle.account_calls.specs.declared.fault.PlanFault.TheVariants.{Inconsistent}
 use Rattle.account_calls.proofs.lemmas.Etags.{etag_agrees, part_etag}
 use Rattle.account_calls.proofs.lemmas.One.{IsReadingOf}
@@ -46,9 +45,9 @@ body_told : (bytes : List ℕ) (size : ℕ) → length bytes ≡ size → cond (
 body_told bytes size same = ap (λ t. cond t (Ok bytes) (Err Inconsistent)) (eq-eqb (length bytes) size same)
 
 -- GET of the file of a piece that is there tells its bytes
-pub piece_reads : {container name bucket : List ℕ} {id : ℕ} {piece : Piece} → container ≡ segments_name bucket → name ≡ segment_name (id_digits id) piece.number
+pub piece_reads : {container name : List ℕ} (bucket : List ℕ) (id : ℕ) (piece : Piece) → container ≡ segments_name bucket → name ≡ segment_name (id_digits id) piece.number
     → IsReadingOf (GivenOf (HasPiece bucket id piece)) (GetObject container name None) (piece_due piece.size) (TellsPiece bucket id piece)
-piece_reads {bucket = bucket} {id = id} {piece = piece} named under = record {
+piece_reads bucket id piece named under = record {
   leaves = λ tree. refl;
   tells = λ tree sound given reply replied.
       let here = given.is in (

@@ -10,7 +10,6 @@ use Rattle.swift_calls.specs.Bodies as bodies
 use Rattle.swift_calls.specs.History.{History, present}
 use Rattle.upload_records.specs.Consistent.{IsConsistent}
 use Rattle.upload_records.specs.Laws.{ObjectListed}
-use Rattle.upload_records.specs.Native.{IsSettled, s3_state}
 use Rattle.account_calls.specs.Answers.{listed_in}
 use Rattle.account_calls.specs.Calls.{Bound, always, by_account, Asks, Given, GivenOf, HasObject, Keeps}
 use Rattle.account_calls.specs.Interpret.{Gives}
@@ -73,6 +72,10 @@ asks_given {a = a} {given = given} {given' = given'} {P = P} gives asks =
     (λ old new sound same has left. subst given (sym left) (gives old sound has))
     (λ old new last y sound has left told. subst (λ t. P t last y) left told)
 
+-- a list that isn't one is no failure
+no_failure : {T : Type 0} (result : Result T PlanFault) → result ≡ Err Inconsistent → result ≢ Err fault.Failed
+no_failure result e failed = cc
+
 -- ---- the lists of an object
 
 module _ {bucket key etag : List ℕ} {size : ℕ} where
@@ -86,10 +89,10 @@ module _ {bucket key etag : List ℕ} {size : ℕ} where
     settled = asks.settled;
   }
 
-  pub list_then : (listed : List Segment) {a b c : History} {result : Result Cut PlanFault} → Asks (always 1) a b (Given (HasObject bucket key etag size)) (TellsOf (ListsSegments bucket key)) (Ok listed)
-      → Asks (always (subs_in listed)) b c (GivenOf (HasListed bucket key etag size listed)) (TellsOf (TellsCut bucket key)) result
+  pub list_then : (listed : List Segment) {walked : List Segment} {a b c : History} {result : Result Cut PlanFault} → walked ≡ listed → Asks (always 1) a b (Given (HasObject bucket key etag size)) (TellsOf (ListsSegments bucket key)) (Ok listed)
+      → Asks (always (subs_in walked)) b c (GivenOf (HasListed bucket key etag size walked)) (TellsOf (TellsCut bucket key)) result
       → Asks (by_account (1 + subs_listed (present a) bucket key)) a c (Given (HasObject bucket key etag size)) (TellsOf (TellsCut bucket key)) result
-  list_then listed {a = a} {b = b} {c = c} {result = result} first then = record {
+  list_then listed {a = a} {b = b} {c = c} {result = result} walks first rest = record {
     grows = record {
       on = both.grows.on;
       calls = λ met.
@@ -103,6 +106,9 @@ module _ {bucket key etag : List ℕ} {size : ℕ} where
     settled = both.settled;
   }
     where
+      then : Asks (always (subs_in listed)) b c (GivenOf (HasListed bucket key etag size listed)) (TellsOf (TellsCut bucket key)) result
+      then = subst (λ (l : List Segment). Asks (always (subs_in l)) b c (GivenOf (HasListed bucket key etag size l)) (TellsOf (TellsCut bucket key)) result) walks rest
+
       both : Asks (always (1 + subs_in listed)) a c (Given (HasObject bucket key etag size)) (TellsOf (TellsCut bucket key)) result
       both = asks_then {R = TellsOf (TellsCut bucket key)} (omega arith) first then
           (λ old new sound same has told. subst (GivenOf (HasListed bucket key etag size listed)) (sym told.same) (record { settled = has.settled; is = record { object = has.is; lists = told.of_account } }))
@@ -133,7 +139,7 @@ module _ {bucket key etag : List ℕ} {size : ℕ} where
       pub too_many : (h : History) (result : Result Cut PlanFault) → result ≡ Err Inconsistent → 10 < length listed
           → Asks (always (length listed)) h h (GivenOf (HasListed bucket key etag size listed)) (TellsOf (TellsCut bucket key)) result
       too_many h result e many =
-          asks_here (length listed) h (GivenOf (HasListed bucket key etag size listed)) (TellsCut bucket key) result (Err Inconsistent) (inr e) (λ failed. let no_more : Err {T = Cut} Inconsistent ≡ Err fault.Failed = sym e ∙ failed in cc)
+          asks_here (length listed) h (GivenOf (HasListed bucket key etag size listed)) (TellsCut bucket key) result (Err Inconsistent) (inr e) (no_failure result e)
           (λ tree sound given. absurd (let few = subs_few law tree bucket key etag size listed is sound given are in omega (arith, few, many)))
 
       gives_subs : (tree : SwiftAccount) → IsConsistent tree → GivenOf (HasListed bucket key etag size listed) tree → GivenOf (HasSubs bucket (list_id listed) (length listed)) tree

@@ -1,11 +1,11 @@
 -- The sub-manifests of a source, one after another: what each lists, in a row, is the source's parts; and how their names are told from
 -- those of parts.
-use Rattle.std.specs.Prelude.{◌≡◌, ◌≤◌, ◌<◌, ◌+◌, ◌-◌, ◌*◌, ◌/◌, ◌^◌, min, ℕ, zero, suc, Bool, true, false, cond, nat_le, List, [], ◌∷◌, ◌++◌, length, take, drop, Option, None, Some}
+use Rattle.std.specs.Prelude.{◌≡◌, ◌≤◌, ◌<◌, ◌+◌, ◌-◌, ◌*◌, ◌/◌, ◌^◌, min, ℕ, zero, suc, Bool, true, false, cond, nat_le, List, [], ◌∷◌, ◌++◌, length, take, drop, Some}
 use Rattle.std.specs.Option.{unwrap_or}
 use Rattle.std.specs.FinMap.{get}
-use Rattle.std.proofs.Common.{refl, sym, ap, subst, ◌∙◌, arith, append_assoc}
+use Rattle.std.proofs.Common.{refl, sym, ap, subst, ◌∙◌, arith, append_assoc, true≢false}
 use Rattle.std.proofs.Math.Seq.{take-append_seam}
-use Rattle.std.proofs.lemmas.List.{length-append, length-take, take_all}
+use Rattle.std.proofs.lemmas.List.{length-append, take_all}
 use Rattle.gate_base.specs.Maps.{Names}
 use Rattle.s3_names.specs.Id.{id_digits, id_of}
 use Rattle.s3_names.proofs.lemmas.Ids.{id_reads_back, length-id_digits}
@@ -14,7 +14,7 @@ use Rattle.slo_manifest.specs.declared.manifest.TheConstants.{MOST_SEGMENTS}
 use Rattle.slo_manifest.specs.declared.Segment.{Segment}
 use Rattle.swift_calls.specs.Account.{SwiftObject}
 use Rattle.swift_calls.specs.Bodies as bodies
-use Rattle.upload_records.specs.Consistent.{AreParts, HasSubManifests, IsPart, IsSegment, is_part, is_sub_manifest, IsSegmentList}
+use Rattle.upload_records.specs.Consistent.{AreParts, HasSubManifests, IsSegment, is_part, is_sub_manifest, IsSegmentList}
 use Rattle.upload_records.specs.Layout.{five_digits, segment_name, sub_manifest_name}
 use Rattle.upload_records.specs.Native.{listing_by, run, sub_manifests, sub_segment, sub_segments}
 use Rattle.upload_records.proofs.lemmas.Subs.{length-sub_segments, take_run}
@@ -101,18 +101,27 @@ module _ (S : Names SwiftObject) (folder id : List ℕ) (parts : List Segment) w
   twice-append : (xs ys : List Segment) → listed_twice S (xs ++ ys) ≡ listed_twice S xs + listed_twice S ys
   unfolding listed_twice
   twice-append [] ys = omega arith
-  twice-append (x ∷ xs) ys = let later = twice-append xs ys in omega (arith, later)
+  twice-append (x ∷ xs) ys =
+      let later = twice-append xs ys in
+      let both : listed_twice S (x ∷ (xs ++ ys)) ≡ 1 + length (listed_in (get S x.name)) + listed_twice S (xs ++ ys) = refl in
+      let first : listed_twice S (x ∷ xs) ≡ 1 + length (listed_in (get S x.name)) + listed_twice S xs = refl in
+      omega (arith, later, both, first)
 
   twice_subs : (n : ℕ) → HasSubManifests S id parts n → listed_twice S (sub_segments folder id parts n) ≡ length (take (MOST_SEGMENTS * n) parts) + n
   unfolding sub_segments listed_twice
-  twice_subs zero subs = let none = ap length (no_run parts) in omega (arith, none)
+  twice_subs zero subs =
+      let none : length (take (MOST_SEGMENTS * 0) parts) ≡ 0 = ap length (no_run parts) in
+      let made : listed_twice S (sub_segments folder id parts zero) ≡ 0 = refl in
+      omega (arith, none, made)
   twice_subs (suc n) subs =
       let before = twice_subs n (λ k below. subs k (omega (arith, below))) in
       let both = twice-append (sub_segments folder id parts n) (sub_segment folder id n (run n parts) ∷ []) in
       let last = ap length (sub_lists n (suc n) subs (omega arith)) in
       let longer : length (take (MOST_SEGMENTS * suc n) parts) ≡ length (take (MOST_SEGMENTS * n) parts) + length (run n parts)
       = ap length (take_run n parts) ∙ length-append (take (MOST_SEGMENTS * n) parts) (run n parts) in
-      omega (arith, before, both, last, longer)
+      let made : listed_twice S (sub_segments folder id parts (suc n)) ≡ listed_twice S (sub_segments folder id parts n ++ sub_segment folder id n (run n parts) ∷ []) = refl in
+      let one : listed_twice S (sub_segment folder id n (run n parts) ∷ []) ≡ 1 + length (listed_in (get S (sub_manifest_name id (n + 1)))) + 0 = refl in
+      omega (arith, before, both, last, longer, made, one)
 
   twice_parts : (above : ℕ) (list : List Segment) → AreParts S folder id above list → listed_twice S list ≡ length list
   unfolding listed_twice
@@ -120,11 +129,12 @@ module _ (S : Names SwiftObject) (folder id : List ℕ) (parts : List Segment) w
   twice_parts above (s ∷ list) (number, low, high, listed, rest) =
       let later = twice_parts number list rest in
       let none : length (listed_in (get S s.name)) ≡ 0 = ap (λ n. length (listed_in (get S n))) listed.named ∙ ap (λ o. length (listed_in o)) listed.there ∙ ap (λ c. length (unwrap_or (bodies.listed_in c) [])) listed.own in
-      omega (arith, later, none)
+      let first : listed_twice S (s ∷ list) ≡ 1 + length (listed_in (get S s.name)) + listed_twice S list = refl in
+      omega (arith, later, none, first)
 
 -- ---- the first of them
 
-pub first_name : List Segment → List ℕ
+unfoldable pub first_name : List Segment → List ℕ
 first_name [] = []
 first_name (s ∷ list) = s.name
 
@@ -166,8 +176,7 @@ pub record ReadsAs (S : Names SwiftObject) (id : List ℕ) (parts listed : List 
   pub there : get S (first_name listed) ≡ Some file
 
 not_both : (t : Bool) → t ≡ true → t ≡ false → ⊥
-not_both true yes no_more = cc
-not_both false yes no_more = cc
+not_both t e f = true≢false (sym e ∙ f)
 
 module _ (S : Names SwiftObject) (folder id : List ℕ) (parts : List Segment) (are : AreParts S folder id 0 parts) (some : 0 < length parts) where
   first_part : (list : List Segment) → 0 < length list → AreParts S folder id 0 list → (number : ℕ) × (file : SwiftObject) × (first_name list ≡ segment_name id number) × (get S (segment_name id number) ≡ Some file)
