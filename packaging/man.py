@@ -108,7 +108,7 @@ def swiftd(version, day):
     same = {row[0].strip("`"): row[1] for row in table(operating, ["what", "meaning"])}
     rows = [(f"`SWIFTD_{word}`", re.sub(r"^(`\w+`(, )?)+: ", "", same[f"S3GATE_{word}"]).replace("`serve`", "`swiftd`"))
             for word in ("LISTEN", "IDLE", "AHEAD", "LOG")]
-    files = [paragraph(operating, it) for it in ("**What is on the disk.**", "**For what size.**", "**Backup.**")]
+    files = [paragraph(operating, it) for it in ("**What is on the disk.**", "**For what size.**", "**Backup.**", "**Nothing but swiftd may write")]
     causes = [(cause, f"{meaning}.") for cause, meaning in table(operating, ["cause", "what it means"])]
     return page("swiftd", "small Swift store in memory or in a file, for s3gate", version, day, [
         ("SYNOPSIS", synopsis([about.split("`")[1]])),
