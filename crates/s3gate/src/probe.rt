@@ -1,7 +1,7 @@
 //! What is asked of the store before it is used: whether it can bear the gateway, and has the account.
 ghost use Rattle.std.specs.Prelude.{◌<◌};
 
-use crate::start::ErrorLog;
+use crate::said::ErrorLog;
 use environment::{SetupFault, Why, clone_environment_runtime};
 use gate_base::{Bytes, CALL_LIMIT, Copying, Counted, Memory};
 use http_answers::{Announced, announced_by_answer_head};
