@@ -204,7 +204,7 @@ class Store:
     def serve(self, stream, number):
         stream.settimeout(PATIENCE)
         with contextlib.suppress(OSError), stream:
-            kept = b""
+            kept, counted = b"", True
             while not self.over.is_set():
                 head, body, kept = read_request(stream, kept)
                 if head is None:
@@ -212,7 +212,7 @@ class Store:
                 with self.lock:
                     call = Call(head, body, number)
                     if call.is_question():
-                        self.connections -= 1
+                        self.connections, counted = self.connections - counted, False
                         act = self.info.get("/info" if call.target == "/info" else "account", tell)
                     else:
                         self.calls.append(call)

@@ -11,13 +11,13 @@ mod faults;
 mod input;
 mod probe;
 mod refused;
-mod start;
+mod said;
 mod version;
 
 use crate::faults::{explain_refusal, explain_setup_fault};
 use crate::input::InputLine;
 use crate::probe::probe_store;
-use crate::start::{ErrorLog, Limits, say_end, say_start};
+use crate::said::{ErrorLog, Limits, say_end, say_start};
 use environment::{
     SetupFault, Why, clone_environment_runtime, is_variable_on, listener_at_variable_place,
     number_in_variable, place_fault, required_variable, variable, words,

@@ -1,7 +1,6 @@
 //! What is asked of the store before it is used: whether it can bear the gateway, and has the account.
-ghost use Rattle.std.specs.Prelude.{◌<◌};
 
-use crate::start::ErrorLog;
+use crate::said::ErrorLog;
 use environment::{SetupFault, Why, clone_environment_runtime};
 use gate_base::{Bytes, CALL_LIMIT, Copying, Counted, Memory};
 use http_answers::{Announced, announced_by_answer_head};
@@ -30,7 +29,10 @@ pub fn probe_store(
     let request = info_request(rt.alloc(), place)?;
     match answer_of_store(rt, place, limit, request.as_slice())? {
         Ok(answer) => judge_info(rt, log, answer.as_slice())?,
-        Err(cause) => return Ok(log.say_store(place.host.as_slice(), b"no /info: ", cause)),
+        Err(cause) => {
+            log.say_store(place.host.as_slice(), b"no /info: ", cause);
+            return Ok(());
+        }
     }
     probe_account(rt, log, place, limit)
 }
@@ -44,11 +46,10 @@ fn probe_account(
     let request = account_request(rt.alloc(), place)?;
     match answer_of_store(rt, place, limit, request.as_slice())? {
         Ok(answer) => judge_account(answer.as_slice()),
-        Err(cause) => Ok(log.say_store(
-            place.host.as_slice(),
-            b"no answer for the account: ",
-            cause,
-        )),
+        Err(cause) => {
+            log.say_store(place.host.as_slice(), b"no answer for the account: ", cause);
+            Ok(())
+        }
     }
 }
 
