@@ -1,14 +1,16 @@
 -- What is found of the upload that an operation is on. Source: this profile.
-use Rattle.std.specs.Prelude.{◌≡◌, ℕ, bytes_eq, cond, List, Option, None, Some}
+use Rattle.std.specs.Prelude.{◌≡◌, ◌≤◌, ◌+◌, ℕ, Bool, true, false, bytes_eq, cond, List, Option, None, Some, Result, IfOk}
 use Rattle.gate_base.specs.declared.page.Pair.{Pair}
 use Rattle.s3_names.specs.Id.{id_digits}
 use Rattle.swift_calls.specs.Account.{SwiftAccount, files}
+use Rattle.swift_calls.specs.History.{History}
 use Rattle.upload_texts.specs.declared.record.Record.{Record}
 use Rattle.upload_texts.specs.declared.record.Record.TheVariants.{Open, Done}
 use Rattle.upload_records.specs.Layout.{uploads_name}
 use Rattle.upload_records.specs.Native.{IsSettled, record_at, s3_state}
 use Rattle.upload_records.specs.Consistent.{IsThere}
 use Rattle.account_calls.specs.Calls.{LacksBucket}
+use Rattle.account_calls.specs.declared.fault.PlanFault.{PlanFault}
 use Rattle.upload_calls.specs.declared.found.Found.{Found}
 use Rattle.upload_calls.specs.declared.found.Found.TheVariants as found
 
