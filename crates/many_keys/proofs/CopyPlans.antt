@@ -123,12 +123,12 @@ is_copy replaced e place fits content ordered head of_parts well below = record 
 }
 
 -- it lists a part, so it has a text as a completion has
-pub lists_parts : (size : ℕ) {s : Sealed} {bucket key : List ℕ} {id : ℕ} {replaced : Option Replaced} {head : ObjectHead} {list : List SealedPart} {moment : ℕ} {cut walked : List Piece} → s ≡ sealed_copy bucket key id replaced head list moment → IsCopy s
+pub lists_parts : (size : ℕ) {s : Sealed} {list : List SealedPart} {cut walked : List Piece} → s.list ≡ list → IsCopy s
     → walked ≡ cut → is_cut size cut ≡ true → AreOfCut walked list → has_sealed_text s ≡ true
 lists_parts size {s = s} {list = list} {cut = cut} e copy same is are =
     let some = (keeps_cut size cut is).some in
     let long : length list ≡ length cut = sym (length-map list piece_in) ∙ ap length (are.pieces ∙ same) in
-    copy_has_text s copy (λ none. let empty = ap length none in let of_list : length s.list ≡ length list = ap (λ (t : Sealed). length t.list) e in omega (arith, empty, of_list, long, some))
+    copy_has_text s copy (λ none. let empty = ap length none in let of_list : length s.list ≡ length list = ap length e in omega (arith, empty, of_list, long, some))
 
 -- it is the copy of the source, where its parts have the source's bytes
 abbrev object_as : Option Replaced → ObjectHead → List ℕ → ℕ → Object
@@ -368,10 +368,10 @@ few_subs s n as_many =
 with_bytes : Sealed → List ℕ → Object
 with_bytes s bytes = record { bytes = bytes; etag = s.etag; content_type = s.content_type; meta = s.meta; modified = s.moment }
 
-module _ (s : Sealed) {settings : Settings} (acl : Option Acl) (list : Acl) (from_bucket from_key : List ℕ) (replaced : Option Replaced) (label : Label) where
-  may_put_of : (tree : SwiftAccount) → MayPut list from_bucket from_key replaced s 0 tree → HasCopied s 0 tree
-  may_put_of tree may = may.copy.stands
+may_put_of : {list : Acl} {from_bucket from_key : List ℕ} {replaced : Option Replaced} {s : Sealed} {n : ℕ} (tree : SwiftAccount) → MayPut list from_bucket from_key replaced s n tree → HasCopied s n tree
+may_put_of tree may = may.copy.stands
 
+module _ (s : Sealed) {settings : Settings} (acl : Option Acl) (list : Acl) (from_bucket from_key : List ℕ) (replaced : Option Replaced) (label : Label) where
   -- they were put, and the copy's file is
   pub subs_go_on : {a b c : History} {now : Settings} {end : Result Reply PlanFault} → now ≡ settings → Asks (always (sealed_sub_manifests s)) a b (GivenOf (HasCopied s 0)) (LeavesCopied s (sealed_sub_manifests s)) (Ok tt)
       → Plans (always 1) b c now (GivenOf (MayPut list from_bucket from_key replaced s (sealed_sub_manifests s))) (CopyObject s.bucket s.key acl from_bucket from_key replaced) label Settled end

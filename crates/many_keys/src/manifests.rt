@@ -125,11 +125,12 @@ fn get_pieces_of_sub_manifests<W: Swift>(
         (GivenOf (HasListed bucket.now key etag size listed.now)) (TellsOf (TellsCut bucket.now key)) result }
 {
     law_object_listed();
-    if listed.len() > MOST_SUB_MANIFESTS {
+    let count = listed.len();
+    if count > MOST_SUB_MANIFESTS {
         return Err(PlanFault::Inconsistent);
     }
     let id = id_of_list(listed);
-    let pieces = get_sub_manifests(alloc, state, bucket, id, listed.len())?;
+    let pieces = get_sub_manifests(alloc, state, bucket, id, count)?;
     proper_cut(id, pieces, size)
 }
 
