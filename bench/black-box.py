@@ -1856,7 +1856,7 @@ def recover_settles_a_store(check):
             check(f"recover over a file that is sealed, and has {title}", odd, recover(store.text))
         check("recover over it, and a report that can't be written", 7, recover(store.text, ">/dev/full")[0])
         check("and the bucket stays", before, store.account["photos"])
-    check("recover without a store, and its log", (4, b"s3gate: store\n", ["refused"]), (lambda it: (it[0], it[1], of_store(it[2], NOWHERE)))(recover(NOWHERE, S3GATE_LOG="on")))
+    check("recover without a store, and its log", (4, b"s3gate: store\n", ["no /info: refused", "refused"]), (lambda it: (it[0], it[1], of_store(it[2], NOWHERE)))(recover(NOWHERE, S3GATE_LOG="on")))
     with Swiftd() as store:
         check("recover over swiftd", done, recover(store.text))
 
