@@ -5,11 +5,13 @@ use Rattle.std.proofs.Common.{refl, sym, ◌∙◌, true≢false}
 use Rattle.s3_machine.specs.Uploads.{same_listed}
 use Rattle.s3_machine.specs.declared.operation.Listed.{Listed}
 use Rattle.s3_machine.specs.declared.operation.Reply.{Reply}
+use Rattle.swift_calls.specs.Account.{SwiftAccount}
 use Rattle.swift_calls.specs.History.{History}
 use Rattle.upload_texts.specs.declared.record.Record.{Record}
 use Rattle.upload_texts.specs.declared.record.Record.TheVariants.{Open, Done}
 use Rattle.account_calls.specs.declared.fault.PlanFault.{PlanFault}
 use Rattle.account_calls.specs.declared.fault.PlanFault.TheVariants.{Failed, Memory, Inconsistent}
+use Rattle.account_calls.specs.Calls.{Asks, Bound}
 use Rattle.account_calls.specs.Refusals.{Unrefused, alone, is_refusal}
 use Rattle.account_calls.proofs.lemmas.Refusals.{no_refusal}
 use Rattle.plan_uploads.specs.Completing.{ShownByParts, StopsAtBucket, end_complete_upload_sealed, lacks_bucket, to_complete_by}
@@ -25,9 +27,10 @@ found_in_bucket (Some (Open under content_type meta started)) key id list =
 found_in_bucket (Some (Done under kept etag started moment)) key id list =
     elim (bytes_eq under key && pointwise same_listed kept list) as (λ t. lacks_bucket (cond t (found.Again etag) found.NoUpload) ≡ false) [ true ↦ refl | false ↦ refl ]
 
-pub stops_in_bucket : {a b : History} (result : Result ToComplete PlanFault) → IfOk result (λ found. lacks_bucket found ≡ false) → StopsAtBucket a b result
-stops_in_bucket (Ok found) there = λ is. absurd (true≢false (sym is ∙ there))
-stops_in_bucket (Err fault) there = tt
+pub stops_in_bucket : {T : Type 0} {m n : Bound} {given then : SwiftAccount → Type 0} {P : SwiftAccount → SwiftAccount → T → Type 0} {Q : SwiftAccount → SwiftAccount → ToComplete → Type 0} {a b c : History} {value : Result T PlanFault}
+    → Asks m a b given P value → (result : Result ToComplete PlanFault) → Asks n b c then Q result → IfOk result (λ found. lacks_bucket found ≡ false) → StopsAtBucket a c result
+stops_in_bucket before (Ok found) after there = λ is. absurd (true≢false (sym is ∙ there))
+stops_in_bucket before (Err fault) after there = tt
 
 -- the end of an abort, and of a completion that was sealed, is no refusal
 pub gone_unrefused : (end : Result (Unit {0}) PlanFault) → Unrefused (gone_behind end)

@@ -19,26 +19,29 @@ use Rattle.planner.specs.declared.reading.Reading.{Reading}
 use Rattle.planner.specs.declared.reading.Reading.TheVariants.{Whole, Pieces}
 use Rattle.planner.specs.Reading.{StopsOrFinds, reading_of}
 
-module _ {a b : History} where
+module _ {T : Type 0} {given : SwiftAccount → Type 0} {P : SwiftAccount → SwiftAccount → T → Type 0} {value : Result T PlanFault} {a b : History} (asks : Asks (always 1) a b given P value) where
+  near : b.called ≤ a.called + 1
+  near = asks.grows.calls
+
   -- by the head of the object
-  pub found_stops : (bucket key : List ℕ) (head : ObjectHead) (j : Judged) → b.called ≤ a.called + 1 → StopsOrFinds 1 a b (Ok (reading_of bucket key head j))
-  found_stops bucket key head PreconditionFailed within = record { so = omega arith }
-  found_stops bucket key head NotModified within = record { so = omega arith }
-  found_stops bucket key head InvalidRange within = record { so = omega arith }
-  found_stops bucket key head (Bytes span partial) within = tt
+  pub found_stops : (bucket key : List ℕ) (head : ObjectHead) (j : Judged) → StopsOrFinds 1 a b (Ok (reading_of bucket key head j))
+  found_stops bucket key head PreconditionFailed = record { so = omega (arith, near) }
+  found_stops bucket key head NotModified = record { so = omega (arith, near) }
+  found_stops bucket key head InvalidRange = record { so = omega (arith, near) }
+  found_stops bucket key head (Bytes span partial) = tt
 
-  headed_by : (head : ObjectHead) (j : Judged) → b.called ≤ a.called + 1 → Stops alone 1 a b (Ok (read_by head (λ span. []) j))
-  headed_by head PreconditionFailed within = record { so = omega arith }
-  headed_by head NotModified within = record { so = omega arith }
-  headed_by head InvalidRange within = record { so = omega arith }
-  headed_by head (Bytes span partial) within = record { so = tt }
+  headed_by : (head : ObjectHead) (j : Judged) → Stops alone 1 a b (Ok (read_by head (λ span. []) j))
+  headed_by head PreconditionFailed = record { so = omega (arith, near) }
+  headed_by head NotModified = record { so = omega (arith, near) }
+  headed_by head InvalidRange = record { so = omega (arith, near) }
+  headed_by head (Bytes span partial) = record { so = tt }
 
-  pub headed_stops : (range : Option Range) (conditions : Conditions) (head : ObjectHead) → b.called ≤ a.called + 1 → Stops alone 1 a b (Ok (headed_reply range conditions head))
-  headed_stops range conditions head within = headed_by head (judged range conditions head) within
+  pub headed_stops : (range : Option Range) (conditions : Conditions) (head : ObjectHead) → Stops alone 1 a b (Ok (headed_reply range conditions head))
+  headed_stops range conditions head = headed_by head (judged range conditions head)
 
 -- a call was made, and then the rest of it stops
-pub finds_behind : {T : Type 0} {asked : SwiftAccount → Type 0} {P : SwiftAccount → SwiftAccount → T → Type 0} {value : Result T PlanFault} {a b c : History} → Asks (always 1) a b asked P value
+pub finds_behind : {T : Type 0} {asked : SwiftAccount → Type 0} {P : SwiftAccount → SwiftAccount → T → Type 0} {value : Result T PlanFault} {a b : History} (c : History) → Asks (always 1) a b asked P value
     → (end : Result Reading PlanFault) → StopsOrFinds 1 b c end → StopsOrFinds 0 a c end
-finds_behind asks (Ok (Whole reply)) stops = stops_behind asks (Ok reply) stops
-finds_behind asks (Ok (Pieces found)) stops = tt
-finds_behind asks (Err fault) stops = tt
+finds_behind c asks (Ok (Whole reply)) stops = stops_behind asks (Ok reply) stops
+finds_behind c asks (Ok (Pieces found)) stops = tt
+finds_behind c asks (Err fault) stops = tt

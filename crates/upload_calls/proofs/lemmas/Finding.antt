@@ -25,7 +25,7 @@ use Rattle.upload_records.proofs.lemmas.Buckets.{s3_state_there}
 use Rattle.upload_records.proofs.lemmas.Settled.{s3_state_unsealed, unsealed_of}
 use Rattle.account_calls.specs.Answers.{named_by}
 use Rattle.account_calls.specs.Listing.{TellsOf}
-use Rattle.account_calls.specs.Calls.{Given, GivenOf, Met, TellsBucket, acl_of_bucket}
+use Rattle.account_calls.specs.Calls.{Asks, Bound, Given, GivenOf, Met, TellsBucket, acl_of_bucket}
 use Rattle.account_calls.specs.declared.fault.PlanFault.{PlanFault}
 use Rattle.upload_calls.specs.declared.found.Found.{Found}
 use Rattle.upload_calls.specs.declared.found.Found.TheVariants as found
@@ -205,6 +205,7 @@ found_in_bucket (Some (Done under list etag started moment)) key id = refl
 found_in_bucket (Some (Open under content_type meta started)) key id =
     elim (bytes_eq under key) as (λ t. is_bucket_missing (cond t (found.Open id) found.NoUpload) ≡ false) [ true ↦ refl | false ↦ refl ]
 
-pub stops_in_bucket : {a b : History} (result : Result Found PlanFault) → IfOk result (λ found. is_bucket_missing found ≡ false) → StopsAtBucket a b result
-stops_in_bucket (Ok it) there = λ is. absurd (true≢false (sym is ∙ there))
-stops_in_bucket (Err fault) there = tt
+pub stops_in_bucket : {T : Type 0} {m n : Bound} {given then : SwiftAccount → Type 0} {P : SwiftAccount → SwiftAccount → T → Type 0} {Q : SwiftAccount → SwiftAccount → Found → Type 0} {a b c : History} {value : Result T PlanFault}
+    → Asks m a b given P value → (result : Result Found PlanFault) → Asks n b c then Q result → IfOk result (λ found. is_bucket_missing found ≡ false) → StopsAtBucket a c result
+stops_in_bucket before (Ok it) after there = λ is. absurd (true≢false (sym is ∙ there))
+stops_in_bucket before (Err fault) after there = tt

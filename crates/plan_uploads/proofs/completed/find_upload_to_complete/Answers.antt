@@ -26,7 +26,7 @@ returns-clause-asks g c =
     (rw reads c.find_recorded.ensures.asks)
 
 pub returns-clause-missing : goal.returns-clause-missing
-returns-clause-missing g c = stops_in_bucket _ c.find_recorded.ensures.there
+returns-clause-missing g c = stops_in_bucket c.in_ok-head_bucket.ensures.asks _ c.find_recorded.ensures.asks c.find_recorded.ensures.there
 
 pub returns-in_default-clause-missing : goal.returns-in_default-clause-missing
 returns-in_default-clause-missing g c = λ missing. c.in_ok-head_bucket.ensures.asks.grows.calls

@@ -25,4 +25,4 @@ returns-clause-plans g c =
     (λ tree there told. (_, ap Ok c.end_list_objects_plan.ensures, list_told _ _ _ _ _ _ there (sym c.may_read.ensures ∙ c.if-not-may_read.false) _ told))
 
 pub returns-clause-stops : goal.returns-clause-stops
-returns-clause-stops g c = subst (λ r. Stops alone 1 _ _ (Ok r)) (sym c.end_list_objects_plan.ensures) (record { so = tt })
+returns-clause-stops g c = rw c.end_list_objects_plan.ensures (record { so = tt })

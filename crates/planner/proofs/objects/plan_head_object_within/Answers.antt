@@ -22,4 +22,4 @@ returns-clause-plans g c =
     (λ tree there object. (headed_reply c.args.range c.args.conditions.now c.in-Some.head, ap Ok c.end_head_object_plan.ensures.reply, head_there _ _ _ _ _ _ _ _ there (sym c.may_read.ensures ∙ c.if-not-may_read.false) _ object))
 
 pub returns-clause-stops : goal.returns-clause-stops
-returns-clause-stops g c = subst (λ r. Stops alone 1 _ _ (Ok r)) (sym c.end_head_object_plan.ensures.reply) (headed_stops c.args.range c.args.conditions.now c.in-Some.head c.in_ok-head.ensures.asks.grows.calls)
+returns-clause-stops g c = rw c.end_head_object_plan.ensures.reply (headed_stops c.in_ok-head.ensures.asks c.args.range c.args.conditions.now c.in-Some.head)

@@ -27,4 +27,4 @@ pub returns-clause-account : goal.returns-clause-account
 returns-clause-account g c = λ observable. c.find_object_within.ensures.account (c.in_ok-list.ensures.asks.grows.on.observable observable) ∙ c.in_ok-list.ensures.leaves observable
 
 pub returns-clause-stops : goal.returns-clause-stops
-returns-clause-stops g c = finds_behind c.in_ok-list.ensures.asks _ c.find_object_within.ensures.stops
+returns-clause-stops g c = finds_behind (g.W.Swift.history c.find_object_within.new.state.store.now) c.in_ok-list.ensures.asks _ c.find_object_within.ensures.stops

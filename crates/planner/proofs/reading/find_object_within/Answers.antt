@@ -39,4 +39,4 @@ pub returns-clause-leaves : goal.returns-clause-leaves
 returns-clause-leaves g c = rw c.reading_of.ensures (leaves_by c.args.bucket c.args.key c.in-Some.head _)
 
 pub returns-clause-stops : goal.returns-clause-stops
-returns-clause-stops g c = rw c.reading_of.ensures (found_stops _ _ c.in-Some.head _ c.in_ok-head.ensures.asks.grows.calls)
+returns-clause-stops g c = rw c.reading_of.ensures (found_stops c.in_ok-head.ensures.asks _ _ c.in-Some.head _)

@@ -29,7 +29,7 @@ returns-clause-by_text g c =
     rw reads c.find_upload_by_id.ensures.by_text
 
 pub returns-clause-missing : goal.returns-clause-missing
-returns-clause-missing g c = stops_in_bucket _ c.find_upload_by_id.ensures.there
+returns-clause-missing g c = stops_in_bucket c.in_ok-head_bucket.ensures.asks _ c.find_upload_by_id.ensures.asks c.find_upload_by_id.ensures.there
 
 pub returns-in_default-clause-missing : goal.returns-in_default-clause-missing
 returns-in_default-clause-missing g c = λ missing. c.in_ok-head_bucket.ensures.asks.grows.calls
