@@ -222,11 +222,10 @@ asks_apart : {bucket from_bucket from_key : List ℕ} {acl : Acl} {head : Object
 asks_apart {bucket = bucket} {from_bucket = from_bucket} {acl = acl} {head = head} {cut = cut} law is proper {id = id} asks =
     asks_told {Q = IsFree bucket from_bucket cut} (λ tree has. record { settled = has.settled; is = bucket_there tree bucket acl is has.settled has.is.found.listed }) id
     (λ tree sound has first.
-        let free = unused tree bucket (id_digits id) first.free in
-        (
-          record { there = bucket_there tree bucket acl is has.settled has.is.found.listed; abandoned = law tree bucket (id_digits id) is free sound },
-          apart_by tree bucket id from_bucket cut.id cut.pieces (keeps_cut head.size cut.pieces proper).some has.is.told.here free,
-        ))
+    let free = unused tree bucket (id_digits id) first.free in (
+      record { there = bucket_there tree bucket acl is has.settled has.is.found.listed; abandoned = law tree bucket (id_digits id) is free sound },
+      apart_by tree bucket id from_bucket cut.id cut.pieces (keeps_cut head.size cut.pieces proper).some has.is.told.here free,
+    ))
     asks
 
 fill_cut : {bucket from_bucket from_key : List ℕ} {acl : Acl} {head : ObjectHead} {cut : Cut} {id : ℕ} {old new : SwiftAccount} → HasCut bucket acl from_bucket from_key head cut old → TellsOf (IsFree bucket from_bucket cut) old new id

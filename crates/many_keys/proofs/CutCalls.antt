@@ -177,8 +177,7 @@ module _ (law : ObjectListed) (tree : SwiftAccount) (bucket key etag : List ℕ)
   pub object_listed : (o : Object) × (object_at (get (s3_state tree) bucket) key ≡ Some o) × (length o.bytes ≡ size) × ListsParts segments (segments_name bucket) listed o
   object_listed =
       let has = given.is.object in
-      let object = object_of_head (object_at (get (s3_state tree) bucket) key) has.0 has.1 in
-      (
+      let object = object_of_head (object_at (get (s3_state tree) bucket) key) has.0 has.1 in (
         object.0,
         object.1,
         ap (λ (h : ObjectHead). h.size) object.2 ∙ has.3,
