@@ -2862,7 +2862,7 @@ def requests_by_chance(count):
         yield made
 
 
-@group()
+@group(first=True)
 def a_file_and_memory_answer_alike(check):
     with tempfile.TemporaryDirectory() as folder, Swiftd() as one, Swiftd(words=["--file", os.path.join(folder, "store.db")]) as other:
         differ, statuses = [], set()
@@ -2936,10 +2936,10 @@ def a_file_after_kills(check):
                 check("and the kill came while it wrote", -signal.SIGKILL, store.ended()[0])
 
 
-@group()
+@group(first=True)
 def a_file_on_a_full_disk(check):
     """Where a file system of its own can be mounted, which is root's."""
-    root, body = f"/v1/{ACCOUNT}", random.Random(1).randbytes(100000)
+    root, body = f"/v1/{ACCOUNT}", random.Random(1).randbytes(400000)
     with tempfile.TemporaryDirectory() as folder:
         if subprocess.run(["mount", "-t", "tmpfs", "-o", "size=12m", "none", folder], capture_output=True).returncode:
             return
@@ -2959,7 +2959,7 @@ def a_file_on_a_full_disk(check):
                     client.reply()
                 while done < 200 and put(store, done) == 201:
                     done += 1
-                check("a disk has an end", True, 10 < done < 200)
+                check("a disk has an end", True, 5 < done < 200)
                 with store.client(swift("DELETE", f"{root}/b/0"), swift("GET", f"{root}/b/k")) as client:
                     check("on a full one a write is refused, and the end", [503, None], [client.reply().status, client.reply()])
                 check("and what was answered is there", True, are_whole(store))
