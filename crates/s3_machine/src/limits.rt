@@ -22,11 +22,11 @@ pub(crate) const MOST_META_BYTES: usize = 2048;
 /// The most items of one reply that lists.
 pub const MOST_ITEMS: u32 = 1000;
 
-/// The most parts that a completion lists (this profile; S3 has more).
-pub const MOST_PARTS: usize = 1000;
+/// The most parts that a completion lists (Amazon S3 User Guide, "Amazon S3 multipart upload limits").
+pub const MOST_PARTS: usize = 10_000;
 
-/// The greatest number of a part; the least is 1 (this profile; S3 has more).
-pub const GREATEST_PART_NUMBER: u32 = 1000;
+/// The greatest number of a part; the least is 1 (Amazon S3 User Guide, "Amazon S3 multipart upload limits").
+pub const GREATEST_PART_NUMBER: u32 = 10_000;
 
 /// The most keys of one deletion of many keys.
 pub const MOST_KEYS: usize = 1000;
