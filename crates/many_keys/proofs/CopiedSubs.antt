@@ -20,13 +20,13 @@ use Rattle.upload_texts.specs.Sealed.{has_sealed_text}
 use Rattle.upload_texts.specs.declared.sealed.Sealed.{Sealed}
 use Rattle.upload_texts.specs.declared.sealed.SealedPart.{SealedPart}
 use Rattle.upload_records.specs.Consistent.{AreParts, AreSealedParts, HasSubManifests, IsConsistent, IsSubManifestOf}
-use Rattle.upload_records.specs.Laws.{KeepsOrphan, OrphanListed}
+use Rattle.upload_records.specs.Laws.{IsAbandoned, KeepsOrphan, OrphanListed}
 use Rattle.upload_records.specs.Layout.{segment_name, segments_name, sub_manifest_name}
 use Rattle.upload_records.specs.Native.{SameGateway, part_bytes, part_of, run, s3_state, sealed_bytes, sealed_segments, sealed_sub_manifests, sub_file_at, sub_manifests, sub_tag}
 use Rattle.upload_records.proofs.lemmas.Beside.{same_beside, segments_there}
 use Rattle.upload_records.proofs.lemmas.Rolling.{listing_stands}
 use Rattle.upload_records.proofs.lemmas.Settled.{settled_same, unsealed_of}
-use Rattle.upload_records.proofs.lemmas.Sides.{part_no_sub, sub_number}
+use Rattle.upload_records.proofs.lemmas.Sides.{part_no_sub, sub_id, sub_number}
 use Rattle.account_calls.specs.Calls.{always, Asks, GivenOf}
 use Rattle.account_calls.specs.Interpret.{stored_due}
 use Rattle.account_calls.specs.Puts.{etag_put}
@@ -87,7 +87,11 @@ module _ (law : OrphanListed) (tree : SwiftAccount) (s : Sealed) (n : ℕ) (is :
   name = sub_manifest_name (id_digits s.id) (n + 1)
 
   sub_kept : KeepsOrphan tree (put_file folder name (sub_file_at s n) tree) s.bucket (id_digits s.id) name (sub_file_at s n)
-  sub_kept = law tree s.bucket name (sub_file_at s n) (sub_stands s n has below) is.place.named given.is.unnamed.there given.is.unnamed.abandoned (sub_stored s n has below) sound (unsealed_of given.settled)
+  sub_kept =
+      let sub = sub_stands s n has below in
+      let same : id_digits sub.id ≡ id_digits s.id = sub_id (id_digits sub.id) (id_digits s.id) sub.number (n + 1) (sym sub.named) in
+      subst (λ id. KeepsOrphan tree (put_file folder name (sub_file_at s n) tree) s.bucket id name (sub_file_at s n)) same
+      (law tree s.bucket name (sub_file_at s n) sub is.place.named given.is.unnamed.there (subst (IsAbandoned tree s.bucket) (sym same) given.is.unnamed.abandoned) (sub_stored s n has below) sound (unsealed_of given.settled))
 
   are_parts : AreParts (files tree folder) folder (id_digits s.id) 0 (sealed_segments s)
   are_parts = (listing_stands (files tree folder) folder (id_digits s.id) 0 s.list is.ascends (all_counted s.list is.proper)

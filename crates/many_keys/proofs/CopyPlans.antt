@@ -123,12 +123,12 @@ is_copy replaced e place fits content ordered head of_parts well below = record 
 }
 
 -- it lists a part, so it has a text as a completion has
-pub lists_parts : (size : ℕ) {s : Sealed} {bucket key : List ℕ} {id : ℕ} {replaced : Option Replaced} {head : ObjectHead} {list : List SealedPart} {moment : ℕ} {cut walked : List Piece} → s ≡ sealed_copy bucket key id replaced head list moment → IsCopy s
+pub lists_parts : (size : ℕ) {s : Sealed} {list : List SealedPart} {cut walked : List Piece} → s.list ≡ list → IsCopy s
     → walked ≡ cut → is_cut size cut ≡ true → AreOfCut walked list → has_sealed_text s ≡ true
 lists_parts size {s = s} {list = list} {cut = cut} e copy same is are =
     let some = (keeps_cut size cut is).some in
     let long : length list ≡ length cut = sym (length-map list piece_in) ∙ ap length (are.pieces ∙ same) in
-    copy_has_text s copy (λ none. let empty = ap length none in let of_list : length s.list ≡ length list = ap (λ (t : Sealed). length t.list) e in omega (arith, empty, of_list, long, some))
+    copy_has_text s copy (λ none. let empty = ap length none in let of_list : length s.list ≡ length list = ap length e in omega (arith, empty, of_list, long, some))
 
 -- it is the copy of the source, where its parts have the source's bytes
 abbrev object_as : Option Replaced → ObjectHead → List ℕ → ℕ → Object
@@ -152,15 +152,15 @@ module _ (bucket key : List ℕ) (acl : Acl) (id : ℕ) (from_bucket from_key : 
   filled_may_put : (cut : Cut) (old new : SwiftAccount) → s3_state new ≡ s3_state old → MayFillCut bucket acl id from_bucket from_key head cut old → CopiesFirst bucket id from_bucket cut.id cut.pieces moment old new list
       → MayPut acl from_bucket from_key replaced as_put 0 new
   filled_may_put cut old new same has told =
-      let object = object_of_head (object_at (get (s3_state old) from_bucket) from_key) head has.cut.found.source in
+      let object = object_of_head (object_at (get (s3_state old) from_bucket) from_key) head has.has.found.source in
       let o = object.0 in
       record {
-        listed = subst (λ s. TellsBucket bucket s (Some acl)) (sym same) has.cut.found.listed;
+        listed = subst (λ s. TellsBucket bucket s (Some acl)) (sym same) has.has.found.listed;
         copy = record {
-          copied = record { unnamed = told.unnamed; parts = told.parts; subs = λ n below. absurd (omega (arith, below)) };
+          stands = record { unnamed = told.unnamed; parts = told.parts; subs = λ n below. absurd (omega (arith, below)) };
           object = o;
           found = ap (λ s. object_at (get s from_bucket) from_key) same ∙ object.1;
-          same = copy_is replaced o head (sealed_bytes (files new (segments_name bucket)) (id_digits id) list) moment object.2 (told.bytes ∙ has.cut.told.bytes o object.1);
+          same = copy_is replaced o head (sealed_bytes (files new (segments_name bucket)) (id_digits id) list) moment object.2 (told.bytes ∙ has.has.told.bytes o object.1);
         };
       }
 
@@ -173,7 +173,7 @@ module _ (bucket key : List ℕ) (acl : Acl) (id : ℕ) (from_bucket from_key : 
       record {
         listed = has.found.listed;
         copy = record {
-          copied = record {
+          stands = record {
             unnamed = has.unnamed;
             parts = subst (λ l. AreSealedParts (files new (segments_name bucket)) (id_digits id) l) (sym none) tt;
             subs = λ n below. absurd (let no_subs : sealed_sub_manifests as_put ≡ 0 = ap (λ l. sub_manifests (length (part_segments (segments_name bucket) (id_digits id) (filled_parts l)))) none in omega (arith, below, no_subs));
@@ -222,17 +222,16 @@ asks_apart : {bucket from_bucket from_key : List ℕ} {acl : Acl} {head : Object
 asks_apart {bucket = bucket} {from_bucket = from_bucket} {acl = acl} {head = head} {cut = cut} law is proper {id = id} asks =
     asks_told {Q = IsFree bucket from_bucket cut} (λ tree has. record { settled = has.settled; is = bucket_there tree bucket acl is has.settled has.is.found.listed }) id
     (λ tree sound has first.
-        let free = unused tree bucket (id_digits id) first.free in
-        (
-          record { there = bucket_there tree bucket acl is has.settled has.is.found.listed; abandoned = law tree bucket (id_digits id) is free sound },
-          apart_by tree bucket id from_bucket cut.id cut.pieces (keeps_cut head.size cut.pieces proper).some has.is.told.here free,
-        ))
+    let free = unused tree bucket (id_digits id) first.free in (
+      record { there = bucket_there tree bucket acl is has.settled has.is.found.listed; abandoned = law tree bucket (id_digits id) is free sound },
+      apart_by tree bucket id from_bucket cut.id cut.pieces (keeps_cut head.size cut.pieces proper).some has.is.told.here free,
+    ))
     asks
 
 fill_cut : {bucket from_bucket from_key : List ℕ} {acl : Acl} {head : ObjectHead} {cut : Cut} {id : ℕ} {old new : SwiftAccount} → HasCut bucket acl from_bucket from_key head cut old → TellsOf (IsFree bucket from_bucket cut) old new id
     → MayFillCut bucket acl id from_bucket from_key head cut new
 fill_cut {bucket = bucket} {from_bucket = from_bucket} {from_key = from_key} {acl = acl} {head = head} {cut = cut} {id = id} has tells =
-    subst (MayFillCut bucket acl id from_bucket from_key head cut) (sym tells.same) (record { unnamed = tells.of_account.0; apart = tells.of_account.1; cut = has })
+    subst (MayFillCut bucket acl id from_bucket from_key head cut) (sym tells.same) (record { unnamed = tells.of_account.0; apart = tells.of_account.1; has = has })
 
 -- ---- the plans
 
@@ -263,7 +262,7 @@ abbrev Found : List ℕ → Acl → List ℕ → List ℕ → ObjectHead → Swi
 Found bucket list from_bucket from_key head tree = IsFoundSource bucket list from_bucket from_key head (s3_state tree)
 
 may_copy : {bucket from_bucket from_key : List ℕ} {list : Acl} {head : ObjectHead} {cut : Cut} {id : ℕ} (tree : SwiftAccount) → MayFillCut bucket list id from_bucket from_key head cut tree → MayCopy bucket id from_bucket cut.id cut.pieces tree
-may_copy tree fill = record { unnamed = fill.unnamed; apart = fill.apart; here = fill.cut.told.here }
+may_copy tree fill = record { unnamed = fill.unnamed; apart = fill.apart; here = fill.has.told.here }
 
 has_object : {bucket from_bucket from_key : List ℕ} {list : Acl} {head : ObjectHead} {h : History} → Met (Given (IsFoundSource bucket list from_bucket from_key head)) h → Met (Given (HasObject from_bucket from_key head.etag head.size)) h
 has_object {head = head} met = record { observable = met.observable; sound = met.sound; has = record { settled = met.has.settled; is = (head, met.has.is.source, refl, refl) } }
@@ -368,10 +367,10 @@ few_subs s n as_many =
 with_bytes : Sealed → List ℕ → Object
 with_bytes s bytes = record { bytes = bytes; etag = s.etag; content_type = s.content_type; meta = s.meta; modified = s.moment }
 
-module _ (s : Sealed) {settings : Settings} (acl : Option Acl) (list : Acl) (from_bucket from_key : List ℕ) (replaced : Option Replaced) (label : Label) where
-  may_put_of : (tree : SwiftAccount) → MayPut list from_bucket from_key replaced s 0 tree → HasCopied s 0 tree
-  may_put_of tree may = may.copy.copied
+may_put_of : {list : Acl} {from_bucket from_key : List ℕ} {replaced : Option Replaced} {s : Sealed} {n : ℕ} (tree : SwiftAccount) → MayPut list from_bucket from_key replaced s n tree → HasCopied s n tree
+may_put_of tree may = may.copy.stands
 
+module _ (s : Sealed) {settings : Settings} (acl : Option Acl) (list : Acl) (from_bucket from_key : List ℕ) (replaced : Option Replaced) (label : Label) where
   -- they were put, and the copy's file is
   pub subs_go_on : {a b c : History} {now : Settings} {end : Result Reply PlanFault} → now ≡ settings → Asks (always (sealed_sub_manifests s)) a b (GivenOf (HasCopied s 0)) (LeavesCopied s (sealed_sub_manifests s)) (Ok tt)
       → Plans (always 1) b c now (GivenOf (MayPut list from_bucket from_key replaced s (sealed_sub_manifests s))) (CopyObject s.bucket s.key acl from_bucket from_key replaced) label Settled end
@@ -382,7 +381,7 @@ module _ (s : Sealed) {settings : Settings} (acl : Option Acl) (list : Acl) (fro
       (λ may told. record {
         listed = subst (λ state. TellsBucket s.bucket state (Some list)) (sym told.1) may.listed;
         copy = record {
-          copied = told.0.copied;
+          stands = told.0.copied;
           object = may.copy.object;
           found = ap (λ state. object_at (get state from_bucket) from_key) told.1 ∙ may.copy.found;
           same = ap (with_bytes s) told.0.same ∙ may.copy.same;

@@ -58,10 +58,10 @@ use Rattle.many_keys.proofs.SideFiles.{part_is_other}
 
 -- ---- one piece
 
-module _ {bucket : List ℕ} {id : ℕ} {from_bucket : List ℕ} {from_id moment : ℕ} {piece : Piece} {a b : History} where
-  has_piece : (tree : SwiftAccount) → GivenOf (MayCopyPiece bucket id from_bucket from_id piece) tree → GivenOf (HasPiece from_bucket from_id piece) tree
-  has_piece tree may = record { settled = may.settled; is = may.is.here }
+has_piece : {bucket : List ℕ} {id : ℕ} {from_bucket : List ℕ} {from_id : ℕ} {piece : Piece} (tree : SwiftAccount) → GivenOf (MayCopyPiece bucket id from_bucket from_id piece) tree → GivenOf (HasPiece from_bucket from_id piece) tree
+has_piece tree may = record { settled = may.settled; is = may.is.here }
 
+module _ {bucket : List ℕ} {id : ℕ} {from_bucket : List ℕ} {from_id moment : ℕ} {piece : Piece} {a b : History} where
   -- its bytes were read, and put
   pub piece_copied : {c : History} {bytes : List ℕ} {result : Result SealedPart PlanFault} → Asks (always 1) a b (GivenOf (HasPiece from_bucket from_id piece)) (TellsOf (TellsPiece from_bucket from_id piece)) (Ok bytes)
       → Asks (always 1) b c (GivenOf (IsUnnamed bucket id)) (PutsSegment bucket id piece.number bytes moment) result
@@ -185,8 +185,8 @@ here_at S id (p ∷ cut) (suc i) d here below = here_at S id cut i d here.1 (ome
 
 -- ---- one more
 
-others_then : {bucket id : List ℕ} {old new last : SwiftAccount} → KeepsOthers bucket id old new → KeepsOthers bucket id new last → KeepsOthers bucket id old last
-others_then first then folder name other = then folder name other ∙ first folder name other
+others_then : (bucket id : List ℕ) (old new last : SwiftAccount) → KeepsOthers bucket id old new → KeepsOthers bucket id new last → KeepsOthers bucket id old last
+others_then bucket id old new last first then folder name other = then folder name other ∙ first folder name other
 
 module _ {bucket : List ℕ} {id : ℕ} {from_bucket : List ℕ} {from_id moment : ℕ} {first : List Piece} {list : List SealedPart} {piece : Piece} {part : SealedPart} {old new last : SwiftAccount} where
   first_more : piece.number ≤ greatest_part → list_all (λ (p : SealedPart). nat_lt p.number piece.number) list ≡ true → IsApart bucket id from_bucket from_id
@@ -213,7 +213,7 @@ module _ {bucket : List ℕ} {id : ℕ} {from_bucket : List ℕ} {from_id moment
             ∙ bytes_more (insert S name puts.file) (id_digits id) list part
             ∙ (λ i. (bytes_stay S (id_digits id) piece.number puts.file counted list below ∙ told.bytes) i ++ (own ∙ more.tells ∙ piece_stays bucket id from_bucket from_id old new apart_from told.others piece) i)
             ∙ sym (cut_more T (id_digits from_id) first piece);
-        others = others_then {bucket = bucket} {id = id_digits id} told.others puts.others;
+        others = others_then bucket (id_digits id) old new last told.others puts.others;
       }
 
 -- ---- the loop

@@ -177,8 +177,7 @@ module _ (law : ObjectListed) (tree : SwiftAccount) (bucket key etag : List ℕ)
   pub object_listed : (o : Object) × (object_at (get (s3_state tree) bucket) key ≡ Some o) × (length o.bytes ≡ size) × ListsParts segments (segments_name bucket) listed o
   object_listed =
       let has = given.is.object in
-      let object = object_of_head (object_at (get (s3_state tree) bucket) key) has.0 has.1 in
-      (
+      let object = object_of_head (object_at (get (s3_state tree) bucket) key) has.0 has.1 in (
         object.0,
         object.1,
         ap (λ (h : ObjectHead). h.size) object.2 ∙ has.3,
@@ -259,9 +258,9 @@ list_reads_so {bucket = bucket} {key = key} {etag = etag} {size = size} found na
 }
 
 -- and so is that of a sub-manifest which is there
-pub sub_reads_so : {request : SwiftRequest} {bucket : List ℕ} {id n : ℕ} → request ≡ GetManifest (segments_name bucket) (sub_manifest_name (id_digits id) (n + 1))
+pub sub_reads_so : {request : SwiftRequest} (bucket : List ℕ) (id n : ℕ) → request ≡ GetManifest (segments_name bucket) (sub_manifest_name (id_digits id) (n + 1))
     → IsReadingOf (GivenOf (HasSubs bucket id (n + 1))) request listed_due (TellsSub bucket id n)
-sub_reads_so {bucket = bucket} {id = id} {n = n} same = subst (λ r. IsReadingOf (GivenOf (HasSubs bucket id (n + 1))) r listed_due (TellsSub bucket id n)) (sym same) (record {
+sub_reads_so bucket id n same = subst (λ r. IsReadingOf (GivenOf (HasSubs bucket id (n + 1))) r listed_due (TellsSub bucket id n)) (sym same) (record {
   leaves = λ tree. refl;
   tells = λ tree sound given reply replied.
       let sub = given.is n (omega arith) in (
@@ -281,7 +280,7 @@ no_runs : (S : Names SwiftObject) (id : List ℕ) → runs_listed S id 0 ≡ []
 unfolding runs_listed
 no_runs S id = refl
 
-module _ {bucket : List ℕ} {id : ℕ} where
+module _ (bucket : List ℕ) (id : ℕ) where
   pub runs_none : (h : History) (count : ℕ) (pieces : List Piece) → pieces ≡ [] → Asks (always 0) h h (GivenOf (HasSubs bucket id count)) (TellsOf (TellsRuns bucket id 0)) (Ok pieces)
   runs_none h count pieces none = record {
     grows = grows_none (always 0) (GivenOf (HasSubs bucket id count)) h;
@@ -290,15 +289,15 @@ module _ {bucket : List ℕ} {id : ℕ} where
     settled = λ observable settled. settled;
   }
 
-  module _ {count n : ℕ} {pieces : List Piece} {a b c : History} (below : n < count) (before : Asks (always n) a b (GivenOf (HasSubs bucket id count)) (TellsOf (TellsRuns bucket id n)) (Ok pieces)) where
+  module _ {count n : ℕ} {pieces : List Piece} {a b : History} (below : n < count) (before : Asks (always n) a b (GivenOf (HasSubs bucket id count)) (TellsOf (TellsRuns bucket id n)) (Ok pieces)) where
     still : (old new : SwiftAccount) → IsConsistent old → s3_state new ≡ s3_state old → GivenOf (HasSubs bucket id count) old → TellsOf (TellsRuns bucket id n) old new pieces → GivenOf (HasSubs bucket id (n + 1)) new
     still old new sound same has told = subst (GivenOf (HasSubs bucket id (n + 1))) (sym told.same) (record { settled = has.settled; is = λ k low. has.is k (omega (arith, low, below)) })
 
     -- one more was read
-    pub runs_more : {listed : List Segment} (pieces' : List Piece) → Asks (always 1) b c (GivenOf (HasSubs bucket id (n + 1))) (TellsOf (TellsSub bucket id n)) (Ok listed) → pieces' ≡ pieces ++ cut_of listed
+    pub runs_more : {c : History} {listed : List Segment} (pieces' : List Piece) → Asks (always 1) b c (GivenOf (HasSubs bucket id (n + 1))) (TellsOf (TellsSub bucket id n)) (Ok listed) → pieces' ≡ pieces ++ cut_of listed
         → Asks (always (n + 1)) a c (GivenOf (HasSubs bucket id count)) (TellsOf (TellsRuns bucket id (n + 1))) (Ok pieces')
     runs_more {listed = listed} pieces' one grown =
-        asks_left {R = TellsOf (TellsRuns bucket id (n + 1))} pieces' (omega arith)
+        asks_left {n = n + 1} {R = TellsOf (TellsRuns bucket id (n + 1))} pieces' (omega arith)
         (asks_then {R = λ old last l. TellsOf (TellsRuns bucket id n) old last pieces × TellsSub bucket id n old l} (omega arith) before one still
         (λ old new last l sound has told sub. (record { of_account = told.of_account; same = sub.same ∙ told.same }, subst (λ t. TellsSub bucket id n t l) told.same sub.of_account)))
         (λ old new sound same has both. record {
@@ -308,17 +307,17 @@ module _ {bucket : List ℕ} {id : ℕ} where
           same = both.0.same;
         })
 
-    both_made : {U : Type 0} {result : Result U PlanFault} {P : SwiftAccount → SwiftAccount → U → Type 0} → Asks (always 1) b c (GivenOf (HasSubs bucket id (n + 1))) P result
+    both_made : {c : History} {U : Type 0} {result : Result U PlanFault} {P : SwiftAccount → SwiftAccount → U → Type 0} → Asks (always 1) b c (GivenOf (HasSubs bucket id (n + 1))) P result
         → Asks (always (n + 1)) a c (GivenOf (HasSubs bucket id count)) (λ old last (l : U). Unit {0}) result
     both_made one = asks_then {R = λ old last l. Unit {0}} (omega arith) before one still (λ old new last l sound has told sub. tt)
 
     -- it wasn't
-    pub runs_fault : {f : PlanFault} → Asks (always 1) b c (GivenOf (HasSubs bucket id (n + 1))) (TellsOf (TellsSub bucket id n)) (Err f) → (result : Result (List Piece) PlanFault) → IsErrAnd result (λ e. e ≡ f)
+    pub runs_fault : {c : History} {f : PlanFault} → Asks (always 1) b c (GivenOf (HasSubs bucket id (n + 1))) (TellsOf (TellsSub bucket id n)) (Err f) → (result : Result (List Piece) PlanFault) → IsErrAnd result (λ e. e ≡ f)
         → Asks (always count) a c (GivenOf (HasSubs bucket id count)) (TellsOf (TellsRuns bucket id count)) result
     runs_fault one result is = asks_failed {R = TellsOf (TellsRuns bucket id count)} (omega (arith, below)) (both_made one) result is
 
     -- and then there was no memory to keep it
-    pub runs_unkept : {listed : List Segment} → Asks (always 1) b c (GivenOf (HasSubs bucket id (n + 1))) (TellsOf (TellsSub bucket id n)) (Ok listed) → (result : Result (List Piece) PlanFault) → IsErrAnd result (λ e. e ≡ fault.Memory)
+    pub runs_unkept : {c : History} {listed : List Segment} → Asks (always 1) b c (GivenOf (HasSubs bucket id (n + 1))) (TellsOf (TellsSub bucket id n)) (Ok listed) → (result : Result (List Piece) PlanFault) → IsErrAnd result (λ e. e ≡ fault.Memory)
         → Asks (always count) a c (GivenOf (HasSubs bucket id count)) (TellsOf (TellsRuns bucket id count)) result
     runs_unkept one result is = asks_no_memory {R = TellsOf (TellsRuns bucket id count)} (omega (arith, below)) (both_made one) result is
 

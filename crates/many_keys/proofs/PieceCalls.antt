@@ -45,9 +45,9 @@ body_told : (bytes : List ℕ) (size : ℕ) → length bytes ≡ size → cond (
 body_told bytes size same = ap (λ t. cond t (Ok bytes) (Err Inconsistent)) (eq-eqb (length bytes) size same)
 
 -- GET of the file of a piece that is there tells its bytes
-pub piece_reads : {container name bucket : List ℕ} {id : ℕ} {piece : Piece} → container ≡ segments_name bucket → name ≡ segment_name (id_digits id) piece.number
+pub piece_reads : {container name : List ℕ} (bucket : List ℕ) (id : ℕ) (piece : Piece) → container ≡ segments_name bucket → name ≡ segment_name (id_digits id) piece.number
     → IsReadingOf (GivenOf (HasPiece bucket id piece)) (GetObject container name None) (piece_due piece.size) (TellsPiece bucket id piece)
-piece_reads {bucket = bucket} {id = id} {piece = piece} named under = record {
+piece_reads bucket id piece named under = record {
   leaves = λ tree. refl;
   tells = λ tree sound given reply replied.
       let here = given.is in (

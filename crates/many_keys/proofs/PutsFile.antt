@@ -55,9 +55,9 @@ module _ (from_bucket from_key : List ℕ) (replaced : Option Replaced) (s : Sea
       ascends = is.ascends;
       counted = all_counted s.list is.proper;
       few = is.few;
-      filed = (sound.buckets s.bucket is.place.named has.copied.unnamed.there).of_segments;
-      parts = has.copied.parts;
-      subs = has.copied.subs;
+      filed = (sound.buckets s.bucket is.place.named has.stands.unnamed.there).of_segments;
+      parts = has.stands.parts;
+      subs = has.stands.subs;
     }
 
     stands : Stands (files tree (segments_name s.bucket)) s (completed_file s)
@@ -66,16 +66,16 @@ module _ (from_bucket from_key : List ℕ) (replaced : Option Replaced) (s : Sea
     takes_list : 0 < length (sealed_listing s) → is_good_list (find_object tree) (sealed_listing s) ≡ true
     takes_list some =
         let lists = copy_segments s is in
-        let parts = (listing_stands (files tree (segments_name s.bucket)) (segments_name s.bucket) (id_digits s.id) 0 s.list is.ascends (all_counted s.list is.proper) may_stand.filed has.copied.parts).0 in
-        takes_listing tree (segments_name s.bucket) (id_digits s.id) (sealed_segments s) parts lists.places lists.few lists.sum (some_parts (segments_name s.bucket) (id_digits s.id) (sealed_segments s) some) has.copied.subs
+        let parts = (listing_stands (files tree (segments_name s.bucket)) (segments_name s.bucket) (id_digits s.id) 0 s.list is.ascends (all_counted s.list is.proper) may_stand.filed has.stands.parts).0 in
+        takes_listing tree (segments_name s.bucket) (id_digits s.id) (sealed_segments s) parts lists.places lists.few lists.sum (some_parts (segments_name s.bucket) (id_digits s.id) (sealed_segments s) some) has.stands.subs
 
     puts : PutsFile tree s.bucket s.key (sealed_object (files tree (segments_name s.bucket)) s) (put_file s.bucket s.key (completed_file s) tree)
     puts = file_puts tree s.bucket s.key (completed_file s) (sealed_object (files tree (segments_name s.bucket)) s) is.place.named stands.is stands.reads
-        (λ id lists opens. has.copied.unnamed.abandoned.closed (subst (λ i. IsOpen (record_at (files tree (uploads_name s.bucket)) (id_digits i))) (stands.lists id lists) opens))
+        (λ id lists opens. has.stands.unnamed.abandoned.closed (subst (λ i. IsOpen (record_at (files tree (uploads_name s.bucket)) (id_digits i))) (stands.lists id lists) opens))
         (copy_stored s is) sound (unsealed_of settled)
 
     folder : (x : SwiftContainer) × (get tree s.bucket ≡ Some x)
-    folder = some_value (get tree s.bucket) has.copied.unnamed.there
+    folder = some_value (get tree s.bucket) has.stands.unnamed.there
 
     answered : swift_step (put_object_of s) tree ≡ put_object (Some folder.0) s.bucket s.key (completed_file s) tree
     answered = put_step tree s.bucket s.key (tag_text (sealed_tag s)) (pack_of s.meta) (sealed_listing s) folder.0 folder.1 takes_list

@@ -67,8 +67,8 @@ asks_here n h given P result due gives own does = record {
 -- more is given over a consistent account than the calls ask
 pub asks_given : {T : Type 0} {n : ℕ} {a b : History} {given given' : SwiftAccount → Type 0} {P : SwiftAccount → SwiftAccount → T → Type 0} {result : Result T PlanFault} → ((tree : SwiftAccount) → IsConsistent tree → given' tree → given tree)
     → Asks (always n) a b given P result → Asks (always n) a b given' P result
-asks_given {a = a} {given = given} {given' = given'} {P = P} gives asks =
-    asks_then {n = 0} {R = P} (omega arith) (asks_start given' a) asks
+asks_given {n = n} {a = a} {given = given} {given' = given'} {P = P} gives asks =
+    asks_then {n = 0} {most = n} {R = P} {m = n} (omega arith) (asks_start given' a) asks
     (λ old new sound same has left. subst given (sym left) (gives old sound has))
     (λ old new last y sound has left told. subst (λ t. P t last y) left told)
 
@@ -76,23 +76,23 @@ asks_given {a = a} {given = given} {given' = given'} {P = P} gives asks =
 no_failure : {T : Type 0} (result : Result T PlanFault) → result ≡ Err Inconsistent → result ≢ Err fault.Failed
 no_failure result e failed = cc
 
+-- the calls are counted by the account
+counted : {T : Type 0} {a c : History} {given : SwiftAccount → Type 0} {P : SwiftAccount → SwiftAccount → T → Type 0} {result : Result T PlanFault} {k : ℕ} (n : ℕ) → ((met : IsConsistent (present a)) → given (present a) → k ≤ n)
+    → Asks (always k) a c given P result → Asks (by_account n) a c given P result
+counted n within asks = record {
+  grows = record { on = asks.grows.on; calls = λ met. let near = asks.grows.calls in let few = within met.sound met.has in omega (arith, near, few) };
+  cause = asks.cause;
+  effect = asks.effect;
+  settled = asks.settled;
+}
+
 -- ---- the lists of an object
 
 module _ {bucket key etag : List ℕ} {size : ℕ} where
-  -- the calls are counted by the account
-  counted : {T : Type 0} {a c : History} {given : SwiftAccount → Type 0} {P : SwiftAccount → SwiftAccount → T → Type 0} {result : Result T PlanFault} {k : ℕ} (n : ℕ) → ((met : IsConsistent (present a)) → given (present a) → k ≤ n)
-      → Asks (always k) a c given P result → Asks (by_account n) a c given P result
-  counted n within asks = record {
-    grows = record { on = asks.grows.on; calls = λ met. let near = asks.grows.calls in let few = within met.sound met.has in omega (arith, near, few) };
-    cause = asks.cause;
-    effect = asks.effect;
-    settled = asks.settled;
-  }
-
-  pub list_then : (listed : List Segment) {a b c : History} {result : Result Cut PlanFault} → Asks (always 1) a b (Given (HasObject bucket key etag size)) (TellsOf (ListsSegments bucket key)) (Ok listed)
-      → Asks (always (subs_in listed)) b c (GivenOf (HasListed bucket key etag size listed)) (TellsOf (TellsCut bucket key)) result
+  pub list_then : (listed : List Segment) {walked : List Segment} {a b c : History} {result : Result Cut PlanFault} → walked ≡ listed → Asks (always 1) a b (Given (HasObject bucket key etag size)) (TellsOf (ListsSegments bucket key)) (Ok listed)
+      → Asks (always (subs_in walked)) b c (GivenOf (HasListed bucket key etag size walked)) (TellsOf (TellsCut bucket key)) result
       → Asks (by_account (1 + subs_listed (present a) bucket key)) a c (Given (HasObject bucket key etag size)) (TellsOf (TellsCut bucket key)) result
-  list_then listed {a = a} {b = b} {c = c} {result = result} first then = record {
+  list_then listed {a = a} {b = b} {c = c} {result = result} walks first rest = record {
     grows = record {
       on = both.grows.on;
       calls = λ met.
@@ -106,6 +106,9 @@ module _ {bucket key etag : List ℕ} {size : ℕ} where
     settled = both.settled;
   }
     where
+      then : Asks (always (subs_in listed)) b c (GivenOf (HasListed bucket key etag size listed)) (TellsOf (TellsCut bucket key)) result
+      then = subst (λ (l : List Segment). Asks (always (subs_in l)) b c (GivenOf (HasListed bucket key etag size l)) (TellsOf (TellsCut bucket key)) result) walks rest
+
       both : Asks (always (1 + subs_in listed)) a c (Given (HasObject bucket key etag size)) (TellsOf (TellsCut bucket key)) result
       both = asks_then {R = TellsOf (TellsCut bucket key)} (omega arith) first then
           (λ old new sound same has told. subst (GivenOf (HasListed bucket key etag size listed)) (sym told.same) (record { settled = has.settled; is = record { object = has.is; lists = told.of_account } }))
@@ -142,17 +145,23 @@ module _ {bucket key etag : List ℕ} {size : ℕ} where
       gives_subs : (tree : SwiftAccount) → IsConsistent tree → GivenOf (HasListed bucket key etag size listed) tree → GivenOf (HasSubs bucket (list_id listed) (length listed)) tree
       gives_subs tree sound given = record { settled = given.settled; is = subs_here law tree bucket key etag size listed is sound given are }
 
+      -- by the count and the id that were taken of the list
+      as_asked : {k id : ℕ} {a b : History} {result : Result (List Piece) PlanFault} → k ≡ length listed → id ≡ list_id listed → Asks (always k) a b (GivenOf (HasSubs bucket id k)) (TellsOf (TellsRuns bucket id k)) result
+          → Asks (always (length listed)) a b (GivenOf (HasListed bucket key etag size listed)) (TellsOf (TellsRuns bucket (list_id listed) (length listed))) result
+      as_asked {a = a} {b = b} {result = result} counts names asks =
+          asks_given gives_subs (subst {A = ℕ × ℕ} (λ p. Asks (always p.0) a b (GivenOf (HasSubs bucket p.1 p.0)) (TellsOf (TellsRuns bucket p.1 p.0)) result) (λ i. (counts i, names i)) asks)
+
       -- they weren't read
-      pub subs_fault : {a b : History} {f : PlanFault} → Asks (always (length listed)) a b (GivenOf (HasSubs bucket (list_id listed) (length listed))) (TellsOf (TellsRuns bucket (list_id listed) (length listed))) (Err f)
+      pub subs_fault : {k id : ℕ} {a b : History} {f : PlanFault} → k ≡ length listed → id ≡ list_id listed → Asks (always k) a b (GivenOf (HasSubs bucket id k)) (TellsOf (TellsRuns bucket id k)) (Err f)
           → (result : Result Cut PlanFault) → IsErrAnd result (λ e. e ≡ f) → Asks (always (length listed)) a b (GivenOf (HasListed bucket key etag size listed)) (TellsOf (TellsCut bucket key)) result
-      subs_fault asks result same = asks_failed {R = TellsOf (TellsCut bucket key)} (omega arith) (asks_given gives_subs asks) result same
+      subs_fault counts names asks result same = asks_failed {n = length listed} {most = length listed} {R = TellsOf (TellsCut bucket key)} (omega arith) (as_asked counts names asks) result same
 
       -- they were
-      pub subs_asks : {a b : History} (pieces : List Piece) → Asks (always (length listed)) a b (GivenOf (HasSubs bucket (list_id listed) (length listed))) (TellsOf (TellsRuns bucket (list_id listed) (length listed))) (Ok pieces)
-          → (result : Result Cut PlanFault) → result ≡ cut_by (is_cut size pieces) (list_id listed) pieces → result ≢ Err fault.Failed
+      pub subs_asks : {k id : ℕ} {a b : History} (pieces : List Piece) → k ≡ length listed → id ≡ list_id listed → Asks (always k) a b (GivenOf (HasSubs bucket id k)) (TellsOf (TellsRuns bucket id k)) (Ok pieces)
+          → (result : Result Cut PlanFault) → result ≡ cut_by (is_cut size pieces) id pieces → result ≢ Err fault.Failed
           → Asks (always (length listed)) a b (GivenOf (HasListed bucket key etag size listed)) (TellsOf (TellsCut bucket key)) result
-      subs_asks pieces asks result due own =
-          asks_due_of {Q = TellsCut bucket key} result own
+      subs_asks pieces counts names asks result due own =
+          asks_due_of {P = TellsRuns bucket (list_id listed) (length listed)} {Q = TellsCut bucket key} result own
           (λ tree sound given told. let read = runs_read law tree bucket key etag size listed is sound given are pieces told in
-          (record { id = list_id listed; pieces = pieces }, due ∙ ap (λ t. cut_by t (list_id listed) pieces) read.proper, read.tells))
-          (asks_given gives_subs asks)
+          (record { id = list_id listed; pieces = pieces }, due ∙ ap (λ i. cut_by (is_cut size pieces) i pieces) names ∙ ap (λ t. cut_by t (list_id listed) pieces) read.proper, read.tells))
+          (as_asked counts names asks)

@@ -3,7 +3,7 @@
 use Rattle.std.specs.Prelude.{◌≡◌, ◌≤◌, ◌<◌, ◌+◌, ◌-◌, ◌*◌, ◌/◌, ◌^◌, min, ℕ, zero, suc, Bool, true, false, cond, nat_le, List, [], ◌∷◌, ◌++◌, length, take, drop, Some}
 use Rattle.std.specs.Option.{unwrap_or}
 use Rattle.std.specs.FinMap.{get}
-use Rattle.std.proofs.Common.{refl, sym, ap, subst, ◌∙◌, arith, append_assoc}
+use Rattle.std.proofs.Common.{refl, sym, ap, subst, ◌∙◌, arith, append_assoc, true≢false}
 use Rattle.std.proofs.Math.Seq.{take-append_seam}
 use Rattle.std.proofs.lemmas.List.{length-append, take_all}
 use Rattle.gate_base.specs.Maps.{Names}
@@ -176,8 +176,7 @@ pub record ReadsAs (S : Names SwiftObject) (id : List ℕ) (parts listed : List 
   pub there : get S (first_name listed) ≡ Some file
 
 not_both : (t : Bool) → t ≡ true → t ≡ false → ⊥
-not_both true yes no_more = cc
-not_both false yes no_more = cc
+not_both t e f = true≢false (sym e ∙ f)
 
 module _ (S : Names SwiftObject) (folder id : List ℕ) (parts : List Segment) (are : AreParts S folder id 0 parts) (some : 0 < length parts) where
   first_part : (list : List Segment) → 0 < length list → AreParts S folder id 0 list → (number : ℕ) × (file : SwiftObject) × (first_name list ≡ segment_name id number) × (get S (segment_name id number) ≡ Some file)

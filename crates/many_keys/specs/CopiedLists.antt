@@ -317,7 +317,7 @@ pub record LeavesCopied (s : Sealed) (n : ℕ) (old new : SwiftAccount) (done : 
 
 -- and it is the copy of the source
 pub record HasCopy (from_bucket from_key : List ℕ) (replaced : Option Replaced) (s : Sealed) (n : ℕ) (tree : SwiftAccount) : Type 0 where
-  pub copied : HasCopied s n tree
+  pub stands : HasCopied s n tree
   pub object : Object
   pub found : object_at (get (s3_state tree) from_bucket) from_key ≡ Some object
   pub same : sealed_object (files tree (segments_name s.bucket)) s ≡ copied replaced s.moment object
@@ -344,7 +344,7 @@ pub record HasCut (bucket : List ℕ) (acl : Acl) (from_bucket from_key : List �
 pub record MayFillCut (bucket : List ℕ) (acl : Acl) (id : ℕ) (from_bucket from_key : List ℕ) (head : ObjectHead) (cut : Cut) (tree : SwiftAccount) : Type 0 where
   pub unnamed : IsUnnamed bucket id tree
   pub apart : IsApart bucket id from_bucket cut.id
-  pub cut : HasCut bucket acl from_bucket from_key head cut tree
+  pub has : HasCut bucket acl from_bucket from_key head cut tree
 
 -- the copy may be put, whose first sub-manifests are there
 pub record MayPut (acl : Acl) (from_bucket from_key : List ℕ) (replaced : Option Replaced) (s : Sealed) (n : ℕ) (tree : SwiftAccount) : Type 0 where

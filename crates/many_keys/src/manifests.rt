@@ -13,16 +13,16 @@ ghost use Rattle.account_calls.specs.Listing.{TellsOf};
 ghost use Rattle.account_calls.specs.declared.fault.PlanFault.TheVariants as fault;
 ghost use Rattle.many_keys.specs.CopiedLists.{HasListed, HasSubs, ListsSegments, TellsCut, TellsRuns, TellsSub, is_cut, listed_due, lists_subs, subs_in, subs_listed};
 
-use crate::cut::{Cut, Piece, add_pieces, cut_of_list, id_of_list, lists_sub_manifests, proper_cut};
+use crate::cut::{
+    Cut, Piece, add_pieces, cut_of_list, id_of_list, lists_sub_manifests, proper_cut,
+};
 use account_calls::{PlanFault, Settled};
 use gate_base::{Bytes, Copying, List, Memory};
 use s3_machine::ObjectHead;
 use slo_manifest::Segment;
 use std::alloc::Global;
 use swift_calls::{Swift, SwiftReply, SwiftRequest};
-use upload_records::{
-    law_listing_found, law_object_listed, segments_container, sub_manifest_name,
-};
+use upload_records::{law_listing_found, law_object_listed, segments_container, sub_manifest_name};
 
 /// The most sub-manifests that an object lists.
 const MOST_SUB_MANIFESTS: usize = 10;
@@ -125,11 +125,12 @@ fn get_pieces_of_sub_manifests<W: Swift>(
         (GivenOf (HasListed bucket.now key etag size listed.now)) (TellsOf (TellsCut bucket.now key)) result }
 {
     law_object_listed();
-    if listed.len() > MOST_SUB_MANIFESTS {
+    let count = listed.len();
+    if count > MOST_SUB_MANIFESTS {
         return Err(PlanFault::Inconsistent);
     }
     let id = id_of_list(listed);
-    let pieces = get_sub_manifests(alloc, state, bucket, id, listed.len())?;
+    let pieces = get_sub_manifests(alloc, state, bucket, id, count)?;
     proper_cut(id, pieces, size)
 }
 

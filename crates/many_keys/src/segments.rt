@@ -51,7 +51,16 @@ pub(crate) fn copy_source_segments<W: Swift>(
 {
     let mut list = List::new(alloc);
     for piece in cut {
-        let part = copy_piece(alloc, state, bucket, id, from_bucket, from_id, *piece, moment)?;
+        let part = copy_piece(
+            alloc,
+            state,
+            bucket,
+            id,
+            from_bucket,
+            from_id,
+            *piece,
+            moment,
+        )?;
         list.push(part)?;
     }
     Ok(list)

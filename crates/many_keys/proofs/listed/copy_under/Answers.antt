@@ -1,5 +1,5 @@
-use Rattle.std.proofs.Common.{ap, sym, subst, ◌∙◌}
-use Rattle.many_keys.specs.CopiedLists.{is_cut, size_of_cut}
+use Rattle.std.proofs.Common.{ap}
+use Rattle.upload_texts.specs.declared.sealed.Sealed.{Sealed}
 use Rattle.many_keys.proofs.CopyPlans.{copy_goes_on, copy_in_vain, cut_is_well, is_copy, lists_parts, sized_cut}
 use Rattle.account_calls.proofs.lemmas.Puts.{ensures_less}
 use Rattle.many_keys.proofs.CopiesStand.{listed_stands}
@@ -14,8 +14,8 @@ returns-in_err-parts-clause-plans g c = λ acl list other onto. copy_in_vain c.a
 pub put_copy_of_parts-end-requires : goal.put_copy_of_parts-end-requires
 put_copy_of_parts-end-requires g c =
     let copy = is_copy c.args.replaced c.sealed_copy-sealed.ensures.copy c.requires.place c.sealed_copy-sealed.ensures.fits c.sealed_copy-sealed.ensures.content c.sealed_copy-sealed.ensures.ordered c.requires.head c.requires.of_parts
-        (cut_is_well _ c.as_slice.ensures c.requires.cut c.in_ok-parts.ensures.listed) c.requires.moment in
-    record { copy = copy; has = lists_parts c.args.head.size c.sealed_copy-sealed.ensures.copy copy c.as_slice.ensures c.requires.cut c.in_ok-parts.ensures.listed }
+    (cut_is_well _ c.as_slice.ensures c.requires.cut c.in_ok-parts.ensures.listed) c.requires.moment in
+    record { copy = copy; has = lists_parts c.args.head.size (ap (λ (s : Sealed). s.list) c.sealed_copy-sealed.ensures.copy) copy c.as_slice.ensures c.requires.cut c.in_ok-parts.ensures.listed }
 
 pub returns-clause-plans : goal.returns-clause-plans
 returns-clause-plans g c = λ acl list other onto.
