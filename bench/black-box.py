@@ -2145,7 +2145,7 @@ def uploads(check):
             for number, body in ((1, b"abc"), (3, b"world"), (1, b"hello"), (1000, b"")):
                 reply = ask("PUT", f"{v}&partNumber={number}", [], body)
                 check(f"part {number} goes", (200, f'"{etags[body]}"'), (reply.status, reply.headers.get("etag")))
-            for number in ("0", "1001", "x", "+1", "", "1000000000"):
+            for number in ("0", "10001", "x", "+1", "", "1000000000"):
                 check(f"part {number!r} doesn't", argument, brief(ask("PUT", f"{v}&partNumber={number}")))
             shown = [(str(number), f"&quot;{etags[body]}&quot;", str(len(body))) for number, body in ((1, b"hello"), (3, b"world"), (1000, b""))]
             check("its parts", (shown, [["0"], [], ["false"]]), parts())

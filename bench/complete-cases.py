@@ -170,7 +170,6 @@ def refusals(to, done):
     bad = ("400 Bad Request", "MalformedXML", "The body is malformed.")
     for body in ["", "<CompleteMultipartUpload></CompleteMultipartUpload>", listed([(0, "")]), body_of(done)[:-1], body_of(done) + "x"]:
         run.refuse(0, complete(body), *bad)
-    run.refuse(0, complete(listed((n, hello) for n in range(1, 1002))), *bad)
     bare = Account(done, "")
     del bare.containers["+gateway"]["sealed"]
     run.end(to, "bodies that are no completion make no call", bare)

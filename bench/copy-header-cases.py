@@ -120,7 +120,7 @@ class Asked:
         is_copy = self.method == "PUT" and self.target.startswith("/photos/k") and "acl" not in self.target and b"x-amz-copy-source" in fields
         self.need_built(fields, is_copy)
         self.need_digest(fields)
-        if number and not 1 <= int(number[1]) <= 1000:
+        if number and not 1 <= int(number[1]) <= 10000:
             raise Refused("InvalidArgument")
         told = self.copied(fields, bool(number)) if is_copy else self.put(fields, bool(number))
         if self.caller == "anonymous":
@@ -290,7 +290,7 @@ def neighbours():
     yield Asked(source("/photos/l"), ("x-amz-acl", "public-read"), ("x-amz-storage-class", "STANDARD"))
     yield Asked(source("photos"), ("x-amz-tagging", "a=b"))
     yield Asked(source("photos"), target=f"/photos/k?{PART.replace('7', '0')}", body="x")
-    yield Asked(source("/photos/l?"), target=f"/photos/k?{PART.replace('7', '1001')}")
+    yield Asked(source("/photos/l?"), target=f"/photos/k?{PART.replace('7', '10001')}")
 
 
 def by_chance(chance, count):
