@@ -257,12 +257,24 @@ impl<S: Read + Write + OpenStream + Drop> Client<S> {
     fn hear_piece(&mut self, now: Duration) -> Result<(), AllocError> {
         let came = self.came.len();
         let room = self.room();
+        self.grow(room)?;
         self.came.resize(came.saturating_add(room), 0)?;
         let start = came.min(self.came.len());
         let got = self.stream.read(&mut self.came[start..]);
         let count = self.note(got, now);
         self.came.truncate(came.saturating_add(count));
         Ok(())
+    }
+
+    /// Makes room for what is asked for: twice what there was, but no more than the request has once its size is known. So a
+    /// buffer isn't moved into one that is twice as large for the last bytes of a body.
+    fn grow(&mut self, room: usize) -> Result<(), AllocError> {
+        let came = self.came.len();
+        if self.size == 0 || came.saturating_add(room) <= self.came.capacity() {
+            return Ok(());
+        }
+        let most = self.size.saturating_sub(came);
+        self.came.reserve_exact(came.min(most).max(room))
     }
 
     /// How many bytes are asked for.
