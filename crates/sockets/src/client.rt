@@ -435,7 +435,7 @@ impl<S: Read + Write + OpenStream + Drop> Client<S> {
     /// Its reply is whole. What stands behind the request is its next.
     pub(crate) fn replied(&mut self, now: Duration) {
         self.busy = false;
-        self.replying = false;
+        self.end_reply();
         if !self.framed || self.left != 0 {
             return;
         }
@@ -609,12 +609,28 @@ impl<S: Read + Write + OpenStream + Drop> Client<S> {
         }
     }
 
+    /// All that was kept is sent. Its room stays for the next piece of the same reply.
     fn forget_unsent(&mut self) {
         if !self.unsent.is_empty() {
             self.sent = 0;
-            let alloc = *self.unsent.allocator();
-            self.unsent = Vec::new(alloc);
+            self.unsent.truncate(0);
+            if !self.replying {
+                self.give_room_back();
+            }
         }
+    }
+
+    /// Its reply is whole: where nothing of it is kept any more, no room is.
+    fn end_reply(&mut self) {
+        self.replying = false;
+        if self.unsent.is_empty() {
+            self.give_room_back();
+        }
+    }
+
+    fn give_room_back(&mut self) {
+        let alloc = *self.unsent.allocator();
+        self.unsent = Vec::new(alloc);
     }
 
     fn fail(&mut self) {
@@ -631,6 +647,7 @@ impl<S: Read + Write + OpenStream + Drop> Client<S> {
     /// It gets nothing more than what is kept for it.
     pub(crate) fn close(&mut self, now: Duration) {
         self.phase = Phase::Closing;
+        self.end_reply();
         self.ready = false;
         self.heard = now;
         self.size = 0;
