@@ -1,5 +1,5 @@
 -- XML that is written. Source: Extensible Markup Language 1.0; which bytes are escaped is this profile's.
-use Rattle.std.specs.Prelude.{ℕ, ◌==◌, nat_lt, if◌then◌else◌, List, [], ◌∷◌, ◌++◌, codes, decimal}
+use Rattle.std.specs.Prelude.{ℕ, Bool, true, false, ◌==◌, nat_lt, if◌then◌else◌, List, [], ◌∷◌, ◌++◌, codes, decimal}
 use Rattle.std.specs.List.{flat_map}
 use Rattle.s3_machine.specs.declared.code.Code.{Code}
 use Rattle.s3_pages.specs.Codes.{name_of, message_of}
@@ -14,6 +14,11 @@ abbrev pub escape_of : ℕ → List ℕ
 escape_of byte =
     if byte == 38 then codes "&amp;" else if byte == 60 then codes "&lt;" else if byte == 62 then codes "&gt;" else if byte == 34 then codes "&quot;"
     else if nat_lt byte 32 then codes "&#" ++ decimal byte ++ codes ";" else byte ∷ []
+
+-- a byte that stands in a document as it is
+abbrev pub is_plain : ℕ → Bool
+is_plain byte =
+    if byte == 38 then false else if byte == 60 then false else if byte == 62 then false else if byte == 34 then false else if nat_lt byte 32 then false else true
 
 -- a text as it stands in a document
 unfoldable pub escaped : List ℕ → List ℕ

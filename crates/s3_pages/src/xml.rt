@@ -1,5 +1,6 @@
 //! The writing of XML.
 ghost use Rattle.std.specs.Prelude.{◌≡◌, ◌<◌, ◌++◌, IfOk, OnOk};
+ghost use Rattle.std.specs.List.{list_all};
 ghost use Rattle.gate_base.specs.Told.{moment_limit};
 ghost use Rattle.s3_pages.specs.Bodies.{
   etag_element,
@@ -14,7 +15,7 @@ ghost use Rattle.s3_pages.specs.Bodies.{
 };
 ghost use Rattle.hex.specs.Hex.{encode_lower};
 ghost use Rattle.s3_pages.specs.Texts.{id_text};
-ghost use Rattle.s3_pages.specs.Xml.{declaration, element, end_of, escape_of, escaped, root};
+ghost use Rattle.s3_pages.specs.Xml.{declaration, element, end_of, escape_of, escaped, is_plain, root};
 
 use crate::texts;
 use gate_base::{Bytes, Memory};
@@ -48,9 +49,21 @@ impl Xml {
         self.text.append(text)
     }
 
-    /// Appends a text, escaped.
-    #[tactic(auto, using(crate::proofs::Escapes::escapes))]
+    /// Appends a text, escaped. One in which nothing is to be escaped is appended at once.
+    #[tactic(auto, using(crate::proofs::Escapes::plain_escaped))]
     pub fn escaped(&mut self, text: &[u8]) -> Result<(), Memory>
+        ensures { OnOk result (self.new.text ≡ self.old.text ++ escaped text.now) }
+    {
+        if are_plain_in_xml(text) {
+            self.tags(text)
+        } else {
+            self.escape_each(text)
+        }
+    }
+
+    /// The same byte by byte.
+    #[tactic(auto, using(crate::proofs::Escapes::escapes))]
+    fn escape_each(&mut self, text: &[u8]) -> Result<(), Memory>
         ensures { OnOk result (self.new.text ≡ self.old.text ++ escaped text.now) }
     {
         for byte in text {
@@ -210,5 +223,25 @@ impl Xml {
             }
             _ => self.text.push(byte),
         }
+    }
+}
+
+/// Whether all bytes stand in a document as they are.
+fn are_plain_in_xml(text: &[u8]) -> bool
+    ensures { result ≡ list_all is_plain text.now }
+{
+    text.iter().all(|byte| is_plain_in_xml(*byte))
+}
+
+fn is_plain_in_xml(byte: u8) -> bool
+    ensures { result ≡ is_plain byte }
+{
+    match byte {
+        b'&' => false,
+        b'<' => false,
+        b'>' => false,
+        b'"' => false,
+        0..=31 => false,
+        _ => true,
     }
 }
