@@ -38,7 +38,7 @@ pub returns-then-not-rises-clause-stands : goal.returns-then-not-rises-clause-st
 returns-then-not-rises-clause-stands g c = refused_ensures InvalidPartOrder _ (ap (λ (x : Completing). x.end) c.end_complete_upload_refused.ensures)
 
 pub returns-then-not-rises-clause-stops : goal.returns-then-not-rises-clause-stops
-returns-then-not-rises-clause-stops g c = subst (λ (x : Completing). Stops alone 2 _ _ x.end) (sym c.end_complete_upload_refused.ensures) (record { so = omega arith })
+returns-then-not-rises-clause-stops g c = rw c.end_complete_upload_refused.ensures (record { so = omega arith })
 
 pub returns-clause-stops : goal.returns-clause-stops
 returns-clause-stops g c = stops_unshown _ c.complete_by.ensures.shown

@@ -66,13 +66,13 @@ pub returns-in-Open-clause-stands : goal.returns-in-Open-clause-stands
 returns-in-Open-clause-stands g c = ensures_less (λ tree stands. inr stands) _ c.complete_open.ensures.stands
 
 pub returns-in-NoBucket-clause-stops : goal.returns-in-NoBucket-clause-stops
-returns-in-NoBucket-clause-stops g c = subst (λ (x : Completing). Stops alone 0 _ _ x.end) (sym c.end_complete_upload_refused.ensures) (record { so = let near = c.in_ok-find_upload_to_complete.ensures.missing (ap lacks_bucket c.in-NoBucket.is) in omega (arith, near) })
+returns-in-NoBucket-clause-stops g c = rw c.end_complete_upload_refused.ensures (record { so = let near = c.in_ok-find_upload_to_complete.ensures.missing (ap lacks_bucket c.in-NoBucket.is) in omega (arith, near) })
 
 pub returns-in-NoUpload-clause-stops : goal.returns-in-NoUpload-clause-stops
-returns-in-NoUpload-clause-stops g c = subst (λ (x : Completing). Stops alone 0 _ _ x.end) (sym c.end_complete_upload_refused-in-NoUpload.ensures) (record { so = let near = c.in_ok-find_upload_to_complete.ensures.asks.grows.calls in omega (arith, near) })
+returns-in-NoUpload-clause-stops g c = rw c.end_complete_upload_refused-in-NoUpload.ensures (record { so = let near = c.in_ok-find_upload_to_complete.ensures.asks.grows.calls in omega (arith, near) })
 
 pub returns-in_ok-end_complete_upload_again-in-Again-clause-stops : goal.returns-in_ok-end_complete_upload_again-in-Again-clause-stops
-returns-in_ok-end_complete_upload_again-in-Again-clause-stops g c = subst (λ (x : Completing). Stops alone 0 _ _ x.end) (sym c.in_ok-end_complete_upload_again-in-Again.ensures) (record { so = tt })
+returns-in_ok-end_complete_upload_again-in-Again-clause-stops g c = rw c.in_ok-end_complete_upload_again-in-Again.ensures (record { so = tt })
 
 pub returns-in-Open-clause-stops : goal.returns-in-Open-clause-stops
 returns-in-Open-clause-stops g c = stops_behind c.in_ok-find_upload_to_complete.ensures.asks _ c.complete_open.ensures.stops
