@@ -1,5 +1,5 @@
 -- What is made of what calls told of the account: another thing, or a part of a longer stretch of calls.
-use Rattle.std.specs.Prelude.{◌≡◌, ◌≢◌, ◌≤◌, ◌<◌, ◌+◌, ℕ, true, false, cond, List, length, Result, Ok, Err}
+use Rattle.std.specs.Prelude.{◌≡◌, ◌≢◌, ◌≤◌, ◌<◌, ◌+◌, ℕ, true, false, cond, List, [], length, Result, Ok, Err}
 use Rattle.std.specs.Result.{IsErrAnd}
 use Rattle.std.specs.Option.{unwrap_or}
 use Rattle.std.proofs.Common.{refl, sym, ap, subst, ◌∙◌, inl, inr, arith}
@@ -42,7 +42,7 @@ asks_due_of {a = a} {b = b} {given = given} {Q = Q} result own does asks = recor
 }
 
 -- no call was made
-pub asks_start : (given : SwiftAccount → Type 0) (h : History) → Asks (always 0) h h given (λ old new done. new ≡ old) (Ok tt)
+pub asks_start : (given : SwiftAccount → Type 0) (h : History) → Asks {T = Unit {0}} (always 0) h h given (λ old new done. new ≡ old) (Ok tt)
 asks_start given h = record {
   grows = grows_none (always 0) given h;
   cause = refl;
@@ -53,7 +53,7 @@ asks_start given h = record {
 -- and what is wanted is known
 pub asks_here : {T : Type 0} (n : ℕ) (h : History) (given : SwiftAccount → Type 0) (P : SwiftAccount → T → Type 0) (result due : Result T PlanFault) → Gives result due → result ≢ Err fault.Failed
     → ((tree : SwiftAccount) → IsConsistent tree → given tree → (y : T) × (due ≡ Ok y) × P tree y) → Asks (always n) h h given (TellsOf P) result
-asks_here n h given P result due gives own does = record {
+asks_here {T = T} n h given P result due gives own does = record {
   grows = grows_none (always n) given h;
   cause = due_cause h.faults h.faults result refl own;
   effect = λ met. by gives (does (present h) met.sound met.has) (none_made refl met.sound, refl);

@@ -253,6 +253,7 @@ fn put_copy_of_parts<W: Swift>(
         known.Settled result }
     ensures stands { EnsuresIfDone (W.history state.new.store.now)
         (λ tree. StandsIn tree (put_object_of sealed.now)) result }
+    ensures unrefused { Unrefused result }
 {
     put_copied_sub_manifests(alloc, state, sealed)?;
     put_listed_copy(alloc, state, sealed)

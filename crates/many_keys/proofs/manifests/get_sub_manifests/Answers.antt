@@ -19,7 +19,7 @@ loop-n-preserved g c = record {
     store = c.in_ok-listed.ensures.stays.store ∙ c.loop-n.invariant.stays.store;
     settings = c.in_ok-listed.ensures.stays.settings ∙ c.loop-n.invariant.stays.settings;
   };
-  asks = runs_more c.args.bucket.now c.args.id c.loop-n-test.true c.loop-n.invariant.asks _ c.in_ok-listed.ensures.asks (c.in_ok-add_pieces.ensures ∙ ap (λ list. _ ++ cut_of list) c.as_slice.ensures);
+  asks = runs_more c.args.bucket.now c.args.id c.loop-n-test.true c.loop-n.invariant.asks _ c.in_ok-listed.ensures.asks (c.in_ok-add_pieces.ensures ∙ ap (λ list. c.loop-n.pieces ++ cut_of list) c.as_slice.ensures);
 }
 
 pub returns-clause-asks : goal.returns-clause-asks
