@@ -45,7 +45,7 @@ FAULTS = [
     ("many_keys delete_keys: the keys behind a failed call are tried", "many_keys/src/deletions.rt", 1, "        delete_key(state, bucket, key)?;\n", "        let _ = delete_key(state, bucket, key);\n", ["many_keys.txt"]),
     ("many_keys content_of: the source's type and metadata, where they are replaced", "many_keys/src/source.rt", 1, "        Some(replaced) => replaced,\n", "        Some(_) => Replaced { content_type, meta },\n", ["copies.txt"]),
     ("many_keys copy_source_by_pieces: the id isn't looked for", "many_keys/src/listed.rt", 2, "    let id = free_id(alloc, state, &bucket, label.draw)?;\n", "    let id = label.draw;\n", ["copies.txt"]),
-    ("many_keys copy_source_segments: each segment has the first bytes", "many_keys/src/segments.rt", 1, "at = at + piece.size;", "at = 0 * piece.size;", ["copies.txt"]),
+    ("many_keys get_piece_to_copy: each segment has the bytes of the first", "many_keys/src/segments.rt", 1, "segment_name(alloc, id, piece.number)?;", "segment_name(alloc, id, 1)?;", ["copies.txt"]),
     ("many_keys copy_piece: the segments have the number of the first", "many_keys/src/segments.rt", 1, "put_copied_segment(alloc, state, bucket, id, piece.number, bytes, moment)", "put_copied_segment(alloc, state, bucket, id, 1, bytes, moment)", ["copies.txt"]),
     ("s3_machine has_last: one byte behind the end", "s3_machine/src/copy_sources.rt", 1, "Some((_, last)) => last < size,", "Some((_, last)) => last <= size,", ["copies.txt"]),
     ("http_wire closes: HTTP/1.0 stays open", "http_wire/src/closing.rt", 1, "message.old || close_header", "close_header", ["http_wire.txt", "buckets.txt"]),
