@@ -133,18 +133,65 @@ fn serve_on(
 ) -> Result<u8, SetupFault> {
     let limit = store_limit(rt)?;
     let place = store_place(rt)?;
-    let command = accepted_command(rt, words, keys);
-    if let Some(command) = &command {
-        let mut log = log(rt)?;
-        say_start(rt, &mut log, command, keys, &place, limits(rt, limit)?)?;
-        probe_store(rt, &mut log, &place, limit)?;
-    }
-    let mut store = swift_store(rt, place, limit)?;
-    let status = run_over(rt, words, keys, line, &mut store)?;
-    if let (0, Some(command)) = (status, &command) {
-        say_end(rt, &mut log(rt)?, command);
+    begin(rt, words, keys, &place, limit)?;
+    let status = serve_store(rt, words, keys, line, place, limit)?;
+    if status == 0 {
+        say_that_it_ended(rt, words, keys)?;
     }
     Ok(status)
+}
+
+/// Says what is served, and asks the store whether it can bear it, where the words are accepted.
+fn begin(
+    rt: &HostRuntime,
+    words: &[String],
+    keys: &str,
+    place: &Place,
+    limit: u64,
+) -> Result<(), SetupFault> {
+    match accepted_command(rt, words, keys) {
+        Some(command) => begin_command(rt, &command, keys, place, limit),
+        None => Ok(()),
+    }
+}
+
+fn begin_command(
+    rt: &HostRuntime,
+    command: &Command,
+    keys: &str,
+    place: &Place,
+    limit: u64,
+) -> Result<(), SetupFault> {
+    let limits = limits(rt, limit)?;
+    let mut log = log(rt)?;
+    say_start(rt, &mut log, command, keys, place, limits)?;
+    probe_store(rt, &mut log, place, limit)
+}
+
+/// A run over the clients that come, and the Swift store at that place.
+fn serve_store(
+    rt: &HostRuntime,
+    words: &[String],
+    keys: &str,
+    line: &mut Clients,
+    place: Place,
+    limit: u64,
+) -> Result<u8, SetupFault> {
+    let mut store = swift_store(rt, place, limit)?;
+    run_over(rt, words, keys, line, &mut store)
+}
+
+fn say_that_it_ended(rt: &HostRuntime, words: &[String], keys: &str) -> Result<(), SetupFault> {
+    match accepted_command(rt, words, keys) {
+        Some(command) => say_end_of(rt, &command),
+        None => Ok(()),
+    }
+}
+
+fn say_end_of(rt: &HostRuntime, command: &Command) -> Result<(), SetupFault> {
+    let mut log = log(rt)?;
+    say_end(rt, &mut log, command);
+    Ok(())
 }
 
 /// The numbers that the log's first line has.
@@ -168,9 +215,36 @@ fn accepted_command(rt: &HostRuntime, words: &[String], keys: &str) -> Option<Co
 fn recover(rt: &HostRuntime, words: &[String], keys: &str) -> Result<u8, SetupFault> {
     let limit = store_limit(rt)?;
     let place = store_place(rt)?;
-    if accepted_command(rt, words, keys).is_some() {
-        probe_store(rt, &mut log(rt)?, &place, limit)?;
+    probe_accepted(rt, words, keys, &place, limit)?;
+    recover_store(rt, words, keys, place, limit)
+}
+
+/// Asks the store whether it can bear the gateway, where the words are accepted.
+fn probe_accepted(
+    rt: &HostRuntime,
+    words: &[String],
+    keys: &str,
+    place: &Place,
+    limit: u64,
+) -> Result<(), SetupFault> {
+    if is_accepted(rt, words, keys) {
+        let mut log = log(rt)?;
+        probe_store(rt, &mut log, place, limit)?;
     }
+    Ok(())
+}
+
+fn is_accepted(rt: &HostRuntime, words: &[String], keys: &str) -> bool {
+    accepted_command(rt, words, keys).is_some()
+}
+
+fn recover_store(
+    rt: &HostRuntime,
+    words: &[String],
+    keys: &str,
+    place: Place,
+    limit: u64,
+) -> Result<u8, SetupFault> {
     let mut store = swift_store(rt, place, limit)?;
     let mut line = InputLine::new(clone_environment_runtime(rt)?);
     run_over(rt, words, keys, &mut line, &mut store)
