@@ -29,18 +29,28 @@ pub fn say_start(
     place: &Place,
     limits: Limits,
 ) -> Result<(), SetupFault> {
-    let listens = variable(rt, "S3GATE_LISTEN")?;
-    let listens = match &listens {
-        Some(text) => text.as_bytes(),
-        None => b"",
-    };
-    if let Ok(line) = start_line(rt.alloc(), command, keys, listens, place, limits) {
-        log.say(line.as_slice());
+    match variable(rt, "S3GATE_LISTEN")? {
+        Some(text) => say_first_line(rt, log, command, keys, text.as_bytes(), place, limits),
+        None => say_first_line(rt, log, command, keys, b"", place, limits),
     }
     if keys.is_empty() {
         say_no_key(rt, log)?;
     }
     Ok(())
+}
+
+fn say_first_line(
+    rt: &HostRuntime,
+    log: &mut ErrorLog,
+    command: &Command,
+    keys: &str,
+    listens: &[u8],
+    place: &Place,
+    limits: Limits,
+) {
+    if let Ok(line) = start_line(rt.alloc(), command, keys, listens, place, limits) {
+        log.say(line.as_slice());
+    }
 }
 
 fn start_line(
