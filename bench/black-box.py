@@ -553,8 +553,9 @@ def urls(check):
     check("a request for a URL that has a signature", (8, b"s3gate: request\n", b""), made(week, head("GET", get)))
     check("a request for a URL that expects 100-continue", (0, b"url /photos/k?", b""), (lambda it: (it[0], it[1][:14], it[2]))(made(week, "PUT /photos/k HTTP/1.1\r\nHost: localhost\r\nContent-Length: 5\r\nExpect: 100-continue\r\n\r\nhello")))
     check("a key for a URL that isn't there", (2, USAGE, b"S3GATE_KEYS: not the key to sign with\n"), made(["--key", "B", "--expires", "1"], published))
-    for words in ([], week[:2], week[2:], [*week[:3], "0"], [*week[:3], "604801"], [*week, "--expires", "1"], [*week, "--region", "US"], [*week, "--connections", "1"]):
-        check(f"the words presign {' '.join(words)!r}", (2, USAGE, BUILT), made(words, published))
+    for words in ([], week[:2], week[2:], [*week[:3], "0"], [*week[:3], "604801"], [*week, "--expires", "1"], [*week, "--region", "US"]):
+        check(f"the words presign {' '.join(words)!r}", (2, USAGE, not_taken("presign", FORM)), made(words, published))
+    check("and with an option of another command", (2, USAGE, not_taken("presign", "has no option --connections")), made([*week, "--connections", "1"], published))
 
 
 # Sessions on standard input and output.
@@ -1164,7 +1165,7 @@ def the_log_says_who_asked(check):
 # What is sent, and what the log's second line says of its 501; none where the reply is another.
 UNKNOWN = [
     (request("GET", "/photos?tagging", close=True), "not implemented: ?tagging"),
-    (request("GET", "/photos?a%01b=secret&versions", close=True), "not implemented: ?a%01b ?versions"),
+    (request("GET", "/photos?a%01b=v&versions", close=True), "not implemented: ?a%01b ?versions"),
     (request("PUT", "/photos/k", [("x-amz-tagging", "secret=1")], b"x", close=True), "not implemented: x-amz-tagging"),
     (request("PUT", "/photos/k", [("If-None-Match", "*"), ("X-Amz-Server-Side-Encryption", "AES256")], b"x", close=True), "not implemented: If-None-Match X-Amz-Server-Side-Encryption"),
     (request("PUT", "/photos/k", [("Content-Encoding", "gzip,aws-chunked")], b"x", close=True), "not implemented: Content-Encoding"),
@@ -1185,7 +1186,7 @@ def the_log_says_what_is_not_implemented(check):
             wanted += [f"{number} {said}"] if said else []
         _, report = gate.ended()
     check("second lines for 501 alone", wanted, said_in(report, SECOND))
-    check("without values", False, b"secret" in report)
+    check("without the values of headers", False, b"secret" in report)
 
 
 @group()
@@ -2472,8 +2473,8 @@ def calls_of_copies_are_spelled(check):
         manifest = "[%s]" % ",".join(f'{{"etag":"{it}","path":"/music+segments/{id_}/{number:05}","size_bytes":5}}' for number, it in ((1, md5s[0]), (3, md5s[1])))
         wanted = [call(f"HEAD {music}"), call(f"HEAD {photos}"), call(f"HEAD {photos}/v"), call(f"GET {photos}/v?multipart-manifest=get")]
         wanted += [call(f"HEAD {music}%2Buploads/{id_}"), call(f"GET {segments}?format=json&limit=1&marker=&prefix={id_}%2F")]
-        for number, range_, body, it in ((1, "0-4", "hello", md5s[0]), (3, "5-9", "world", md5s[1])):
-            wanted.append(call(f"GET {photos}/v", f"Range: bytes={range_}"))
+        for number, body, it in ((1, "hello", md5s[0]), (3, "world", md5s[1])):
+            wanted.append(call(f"GET {photos}%2Bsegments/{UPLOAD}/{number:05}"))
             wanted.append(call(f"PUT {segments}/{id_}/{number:05}", f"Content-Type: application/octet-stream;s3={it}.{moment}.{id_}", body=body))
         wanted.append(call(f"PUT {music}/w?multipart-manifest=put", f"Content-Type: text/plain;s3={etag}.{moment}.{id_}", "X-Object-Meta-S3-0: [7.3.-colourred]", body=manifest))
         check("its calls", wanted, came)
@@ -2604,10 +2605,9 @@ def list_of(*segments, told=True):
     return answer(200, [("Content-Type", "application/json")] + ([("X-Static-Large-Object", "True")] if told else []), json.dumps(items).encode())
 
 
-def bytes_of(first, body, size=10, tag=COPY_TAG):
-    """The answer to GET of a range of it."""
-    headers = [("Content-Type", tag), ("Etag", '"%s"' % ("0" * 32)), ("X-Static-Large-Object", "True"), ("Content-Range", f"bytes {first}-{first + len(body) - 1}/{size}")]
-    return answer(206, headers, body)
+def segment_of(body):
+    """The answer to GET of the file of one of its segments."""
+    return answer(200, [("Content-Type", f"application/octet-stream;s3={md5_of(body)}.{MADE}.{UPLOAD}"), ("Etag", md5_of(body))], body)
 
 
 COPY_A, COPY_V = copy_of("/photos/a", "/photos/c"), copy_of("/photos/v", "/photos/c")
@@ -2617,7 +2617,7 @@ WHOLE_A = answer(200, LIKE, b"abc")
 LIST_V = list_of(("00001", 5, HELLO), ("00003", 5, WORLD))
 FREE = [*TO_V, LIST_V, MISSING, files_named()]
 PUT_HELLO = answer(201, [("Etag", HELLO)])
-FILLED = [*FREE, bytes_of(0, b"hello"), PUT_HELLO, bytes_of(5, b"world"), answer(201, [("Etag", WORLD)])]
+FILLED = [*FREE, segment_of(b"hello"), PUT_HELLO, segment_of(b"world"), answer(201, [("Etag", WORLD)])]
 ODD_COPIES = [
     ("a source whose tag doesn't read", COPY_A, [OPEN, OPEN, answer(200, [("Content-Type", "text/plain"), ("Etag", ABC)], length=3)]),
     ("a source that goes", COPY_A, [*TO_A, MISSING]),
@@ -2636,10 +2636,11 @@ ODD_COPIES = [
     ("a list with a number that is none", COPY_V, [*TO_V, list_of(("00000", 5, HELLO), ("00003", 5, WORLD))]),
     ("a list without five digits", COPY_V, [*TO_V, list_of(("1", 5, HELLO), ("00003", 5, WORLD))]),
     ("a segment that goes", COPY_V, [*FREE, MISSING]),
-    ("a segment of a source with another size", COPY_V, [*FREE, bytes_of(0, b"hello", size=11)]),
-    ("a segment of a source with another ETag", COPY_V, [*FREE, bytes_of(0, b"hello", tag=COPY_TAG.replace("-2.", "-3."))]),
-    ("a segment stored with another ETag", COPY_V, [*FREE, bytes_of(0, b"hello"), answer(201, [("Etag", ABD)])]),
-    ("a segment that can't be stored", COPY_V, [*FREE, bytes_of(0, b"hello"), MISSING]),
+    ("a segment that comes longer", COPY_V, [*FREE, segment_of(b"hello!")]),
+    ("a segment that comes shorter", COPY_V, [*FREE, segment_of(b"hell")]),
+    ("a second segment that comes shorter", COPY_V, [*FREE, segment_of(b"hello"), PUT_HELLO, segment_of(b"wor")]),
+    ("a segment stored with another ETag", COPY_V, [*FREE, segment_of(b"hello"), answer(201, [("Etag", ABD)])]),
+    ("a segment that can't be stored", COPY_V, [*FREE, segment_of(b"hello"), MISSING]),
     ("a copy whose list is refused", COPY_V, [*FILLED, answer(400)]),
     ("a copy whose list can't be stored", COPY_V, [*FILLED, MISSING]),
     ("a source of a part that goes", COPY_PART, [*TO_PART, MISSING]),
@@ -2653,10 +2654,9 @@ FAILED_COPIES = [
     ("201 to HEAD of the source", COPY_A, [OPEN, OPEN, answer(201)]),
     ("204 to GET of a list", COPY_V, [*TO_V, answer(204)]),
     ("200 to PUT of a list", COPY_V, [*FILLED, answer(200, [("Etag", ABC)])]),
-    ("a segment that comes shorter", COPY_V, [*FREE, bytes_of(0, b"hell")]),
-    ("a second segment that comes shorter", COPY_V, [*FREE, bytes_of(0, b"hello"), PUT_HELLO, bytes_of(5, b"wor")]),
+    ("a segment of which a part comes", COPY_V, [*FREE, answer(206, [("Content-Type", TAG), ("Etag", HELLO), ("Content-Range", "bytes 0-3/5")], b"hell")]),
     ("a source of a part that comes shorter", COPY_PART, [*TO_PART, answer(206, [*LIKE, ("Content-Range", "bytes 1-1/5")], b"b")]),
-    ("201 without an ETag to PUT of a segment", COPY_V, [*FREE, bytes_of(0, b"hello"), answer(201)]),
+    ("201 without an ETag to PUT of a segment", COPY_V, [*FREE, segment_of(b"hello"), answer(201)]),
     ("200 to PUT of a copied part", COPY_PART, [*TO_PART, part(5), answer(200, [("Etag", ABC)])]),
 ]
 
@@ -3027,8 +3027,10 @@ def files_that_swiftd_refuses(check):
 
 @group()
 def another_token(check):
-    with Swiftd() as store, Gate(store.text, S3GATE_TOKEN="other") as gate:
-        check("a token that swiftd doesn't take", (503, "ServiceUnavailable"), brief(gate.ask("GET", "/")))
+    with Swiftd() as store:
+        usual = {"S3GATE_STORE": store.text, "S3GATE_ACCOUNT": ACCOUNT, "S3GATE_TOKEN": "other", "S3GATE_KEYS": KEYS, "S3GATE_LOG": "off", "S3GATE_LISTEN": "127.0.0.1:0"}
+        for command in ("serve", "recover"):
+            check(f"{command} by a token that swiftd doesn't take", (9, SETUP + b"S3GATE_TOKEN: the store answered 401\n"), ran(S3GATE, [command], **usual)[::2])
     with Swiftd() as store, Gate(store.text, S3GATE_ACCOUNT="other") as gate:
         check("an account that swiftd doesn't have", (503, "ServiceUnavailable"), brief(gate.ask("GET", "/")))
 
