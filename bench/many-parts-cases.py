@@ -146,7 +146,7 @@ def completed(to, number):
     run.complete(KEY, number, PARTS)
     run.span(KEY, 999, 1000)
     run.get(KEY)
-    to.told("an upload of 1001 parts is completed and read", run, LEAST)
+    to.told("an upload of 1001 parts is completed and read", run, LEAST, tell=["tell calls"])
 
 
 def copied(to, number):

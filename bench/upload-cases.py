@@ -112,7 +112,7 @@ class Service:
 
     def on_upload(self, asked, bucket, upload, second):
         # No page is asked for behind the greatest number.
-        self.calls += 0 if asked.act == "PARTS" and (asked.part_marker or 0) >= 1000 else 1
+        self.calls += 0 if asked.act == "PARTS" and (asked.part_marker or 0) >= 10000 else 1
         if asked.act == "PART":
             etag = hashlib.md5(asked.body.encode()).hexdigest()
             upload.parts[asked.part] = (etag, len(asked.body), second)
@@ -165,10 +165,10 @@ class Asked:
         self.act = chance.choice(ACTS) if 2 <= turn else "BUCKET"
         others = ["0" * 32, "f" * 32, "A", ""]
         self.number = chance.choice(numbers) if numbers and chance.random() < 0.9 else chance.choice(others)
-        self.part = chance.choice([1, 2, 3, 4, 5, 1000])
+        self.part = chance.choice([1, 2, 3, 4, 5, 10000])
         self.body = ".".join(str(number) for number in range(chance.randrange(20)))
         self.most = chance.choice([None, 1, 1, 2, 3, 1000])
-        self.part_marker = chance.choice([None, None, 0, 1, 2, 4, 1000])
+        self.part_marker = chance.choice([None, None, 0, 1, 2, 4, 10000])
         self.prefix = chance.choice(PREFIXES)
         self.key_marker = chance.choice([None, None, None, "k", "a b/ü%", "k/", "x&y"])
         self.id_marker = chance.choice([None, None, "0", "g", *(numbers[-3:] or [None])])
