@@ -361,12 +361,12 @@ def part_limits():
                 tell(f"limits: a head of a byte each half second, {where}: ends after {took:.1f} s", took < 4.5)
             with gate.connect(room=65536, timeout=10) as it:
                 it.sendall(b"GET /pub/big HTTP/1.1\r\nHost: x\r\n\r\n")
-                time.sleep(4)
+                time.sleep(5)
                 got = 0
                 with contextlib.suppress(OSError):
                     while more := it.recv(1 << 20):
                         got += len(more)
-                tell(f"limits: takes nothing for 4 s, {where}: then {got} bytes of {len(BIG)} and the end", got < len(BIG))
+                tell(f"limits: takes nothing for 5 s, {where}: then {got} bytes of {len(BIG)} and the end", got < len(BIG))
             stop.set()
             if beside:
                 thread.join()
