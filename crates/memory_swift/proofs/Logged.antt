@@ -1,6 +1,6 @@
 -- What a link tells that writes down what each exchange found: its history, and what one more exchange does to it.
 use Rattle.std.specs.Prelude.{◌≡◌, ◌⊎◌, ℕ, zero, suc, ◌≤◌, ◌<◌, ◌^◌, ◌+◌, Bool, true, false, cond, List, [], ◌∷◌, ◌++◌, length, count_by, IsTrue, Result, Ok, Err}
-use Rattle.std.proofs.Common.{refl, sym, ap, subst, ◌∙◌, inl, inr, arith, length-append, true≢false}
+use Rattle.std.proofs.Common.{refl, sym, ap, subst, ◌∙◌, inl, inr, arith, append-nil, length-append, true≢false}
 use Rattle.std.proofs.Math.Nat.{le_refl}
 use Rattle.std.proofs.Math.Seq.{take-length}
 use Rattle.std.proofs.lemmas.Bool.{and_parts, and_from}
@@ -12,7 +12,7 @@ use Rattle.std.specs.Global.{Vec}
 use Rattle.gate_base.specs.Causes.{RisesIf, Rose}
 use Rattle.swift_calls.specs.Account.{SwiftAccount}
 use Rattle.swift_calls.specs.Step.{Fit, swift_step}
-use Rattle.swift_calls.specs.History.{Extends}
+use Rattle.swift_calls.specs.History.{History, Extends}
 use Rattle.swift_calls.specs.Replay.{loses_none, replay_outcome_at}
 use Rattle.swift_calls.specs.declared.calls.SwiftRequest.{SwiftRequest}
 use Rattle.swift_calls.specs.declared.memory.Outcome.{Outcome}
@@ -204,6 +204,15 @@ module _ {E T : Type 0} (told : T → Bool) (account : T → SwiftAccount) (was 
           → Exchanges place (history_by told account was lost sure log old) request reply (Ok tt) (history_by told account was lost sure' log' later)
       answered_by none is_none is_lost hands = subst (λ (s : T). Exchanges place (history_by told account was lost sure log old) request reply (Ok tt) (history_by told account was lost sure' log' s)) (sym stays)
           (noted_answered e is none is_none is_lost log' grown hands)
+
+-- ---- one exchange in pieces
+
+-- what an exchange of the joined request did, whose answer came in one piece with an empty one behind it
+pub exchanged_in_pieces : (place : Place) (old new : History) (joined request front rest : List ℕ) (result : Result (Unit {0}) LinkFault) → joined ≡ request → rest ≡ []
+    → Exchanges place old joined front result new → Exchanges place old request (front ++ rest) result new
+exchanged_in_pieces place old new joined request front rest result asked none exchange =
+    subst (λ reply. Exchanges place old request reply result new) (sym (ap (λ piece. front ++ piece) none ∙ append-nil front))
+    (subst (λ bytes. Exchanges place old bytes front result new) asked exchange)
 
 -- ---- requests whose answer is lost
 

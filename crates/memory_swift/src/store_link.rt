@@ -17,6 +17,7 @@ ghost use Rattle.swift_store.specs.Shelf.{ShelfModel};
 
 use crate::Store;
 use gate_base::{Bytes, Counted, List, Memory};
+use std::alloc::Global;
 use std::snapshot::Snapshot;
 use swift_calls::Outcome;
 use swift_requests::{Link, LinkFault};
@@ -150,22 +151,9 @@ impl<S: Shelf> Counted for StoreLink<S> {
     }
 }
 
-impl<S: Shelf> Link for StoreLink<S> {
-    ghost history = { λ l. history_by (λ s. (S.model s.shelf).observable) (λ s. (S.model s.shelf).account) (λ e. e.was.value) (λ e. e.lost) (is_sure_by (S.model l.store.shelf).sure l.before l.after) l.log.items l.store };
-
-    ghost place = { λ l. l.store.place };
-
-    ghost counted = { λ l. refl };
-
-    ghost is_history = { λ l. record {
-      last = λ observable left. ap (count_by (λ e. e.lost)) (take-length l.log.items);
-      rise = λ observable j k order within.
-          subst (λ entries. count_by (λ e. e.lost) entries ≤ lost_after (λ e. e.lost) l.log.items k) (take-take j k l.log.items order) (sum_by-take-le _ (take k l.log.items) j);
-    } };
-
-    ghost left = { λ l observable. let ok = l.log.ok in let small = l.log.small in omega (arith, ok, small) };
-
-    fn exchange(&mut self, request: &[u8], reply: &mut Bytes) -> Result<(), LinkFault>
+impl<S: Shelf> StoreLink<S> {
+    /// One exchange of a request in one piece.
+    fn exchange_message(&mut self, request: &[u8], reply: &mut Bytes) -> Result<(), LinkFault>
         requires { length self.old.log.items < budget }
         ensures place { ⟦<StoreLink<S> as Link>⟧.place self.new ≡ ⟦<StoreLink<S> as Link>⟧.place
             self.old }
@@ -200,5 +188,65 @@ impl<S: Shelf> Link for StoreLink<S> {
         }
         *reply = answer;
         Ok(())
+    }
+}
+
+/// The bytes of a request, joined.
+fn joined_request(alloc: Global, head: &[u8], body: &[u8]) -> Result<Bytes, Memory>
+    ensures { IfOk result (λ request. request ≡ head.now ++ body.now) }
+{
+    let mut request = Bytes::with_room(alloc, head.len().saturating_add(body.len()))?;
+    request.append(head)?;
+    request.append(body)?;
+    Ok(request)
+}
+
+impl<S: Shelf> Link for StoreLink<S> {
+    ghost history = { λ l. history_by (λ s. (S.model s.shelf).observable) (λ s. (S.model s.shelf).account) (λ e. e.was.value) (λ e. e.lost) (is_sure_by (S.model l.store.shelf).sure l.before l.after) l.log.items l.store };
+
+    ghost place = { λ l. l.store.place };
+
+    ghost counted = { λ l. refl };
+
+    ghost is_history = { λ l. record {
+      last = λ observable left. ap (count_by (λ e. e.lost)) (take-length l.log.items);
+      rise = λ observable j k order within.
+          subst (λ entries. count_by (λ e. e.lost) entries ≤ lost_after (λ e. e.lost) l.log.items k) (take-take j k l.log.items order) (sum_by-take-le _ (take k l.log.items) j);
+    } };
+
+    ghost left = { λ l observable. let ok = l.log.ok in let small = l.log.small in omega (arith, ok, small) };
+
+    /// The request is joined for the store, and its answer comes in one piece.
+    fn exchange(
+        &mut self,
+        head: &[u8],
+        body: &[u8],
+        front: &mut Bytes,
+        rest: &mut Bytes,
+    ) -> Result<(), LinkFault>
+        requires { length self.old.log.items < budget }
+        ensures place { ⟦<StoreLink<S> as Link>⟧.place self.new ≡ ⟦<StoreLink<S> as Link>⟧.place
+            self.old }
+        ensures exchanges { Exchanges (⟦<StoreLink<S> as Link>⟧.place self.old)
+            (⟦<StoreLink<S> as Link>⟧.history self.old) (head.now ++ body.now)
+            (front.new ++ rest.new) result (⟦<StoreLink<S> as Link>⟧.history self.new) }
+        ensures losses { ⟦<StoreLink<S> as OverShelf>⟧.losses self.new ≡ ⟦<StoreLink<S> as OverShelf>⟧.losses self.old }
+        ensures goes { GoesAs (planned (⟦<StoreLink<S> as OverShelf>⟧.losses self.old)
+            ((⟦<StoreLink<S> as Link>⟧.history self.old).called + 1)) result
+            (⟦<StoreLink<S> as OverShelf>⟧.shelf self.old)
+            (⟦<StoreLink<S> as OverShelf>⟧.shelf self.new) }
+        ensures untold { IsServedUntold (⟦<StoreLink<S> as Link>⟧.place self.old)
+            (head.now ++ body.now)
+            (planned (⟦<StoreLink<S> as OverShelf>⟧.losses self.old)
+            ((⟦<StoreLink<S> as Link>⟧.history self.old).called + 1)) result
+            (⟦<StoreLink<S> as OverShelf>⟧.shelf self.old)
+            (⟦<StoreLink<S> as OverShelf>⟧.shelf self.new) }
+        ensures kept { IsTrue (⟦<StoreLink<S> as OverShelf>⟧.shelf self.old).observable
+            → IsErrOf result LinkFault.Memory
+            → (⟦<StoreLink<S> as OverShelf>⟧.shelf self.new).account ≡ (⟦<StoreLink<S> as OverShelf>⟧.shelf self.old).account }
+    {
+        let request = joined_request(self.store.alloc, head, body)?;
+        *rest = Bytes::new(self.store.alloc);
+        self.exchange_message(request.as_slice(), front)
     }
 }

@@ -1,5 +1,5 @@
 //! A store over a link.
-ghost use Rattle.std.specs.Prelude.{◌≡◌, ◌+◌, IsTrue, IsErrOf};
+ghost use Rattle.std.specs.Prelude.{◌≡◌, ◌+◌, ◌++◌, IsTrue, IsErrOf};
 ghost use Rattle.std.proofs.Common.{sym, ap, ◌∙◌};
 ghost use Rattle.std.proofs.Math.Nat.{add-zero};
 ghost use Rattle.std.proofs.lemmas.Bool.{and_parts, eqb-true};
@@ -12,7 +12,7 @@ use gate_base::{Bytes, CALL_LIMIT, Counted};
 use std::alloc::Global;
 use std::mem::replace;
 use swift_calls::{Swift, SwiftFault, SwiftReply, SwiftRequest};
-use swift_replies::{WireFault, read_answer};
+use swift_replies::{WireFault, read_parted_answer};
 use swift_requests::{Link, LinkFault, Place, write_call};
 use wire_log::{Cause, Explains, logged_cause_of_answer};
 
@@ -26,8 +26,9 @@ pub struct SwiftClient<L: Link> {
     link: L,
     place: Place,
     alloc: Global,
-    /// The answer to the call at hand. It is let go once it was read.
-    reply: Bytes,
+    /// The answer to the call at hand, in the two pieces that the link gives. It is let go once it was read.
+    front: Bytes,
+    rest: Bytes,
     unread: Bytes,
     /// The answers that spelled nothing, and the calls made when none was left.
     own: u64,
@@ -48,35 +49,37 @@ impl<L: Link> SwiftClient<L> {
             link,
             place,
             alloc,
-            reply: Bytes::new(alloc),
+            front: Bytes::new(alloc),
+            rest: Bytes::new(alloc),
             unread: Bytes::new(alloc),
             own: 0,
         }
     }
 
-    /// The last answer that spelled nothing; empty where there was none.
+    /// The first piece of the last answer that spelled nothing, with its head; empty where there was none.
     pub fn unread(&self) -> &[u8]
         ensures { result.now ≡ self.now.unread }
     {
         self.unread.as_slice()
     }
 
-    /// What the answer that came says. One that spells nothing is kept.
+    /// What the answer that came says. Of one that spells nothing the first piece is kept.
     fn read(&mut self, request: &SwiftRequest) -> Result<SwiftReply, SwiftFault>
         requires { Fit request.now }
         ensures link { self.new.link ≡ self.old.link }
         ensures place { self.new.place ≡ self.old.place }
-        ensures reads { ReadsAs request.now self.old.reply result }
+        ensures reads { ReadsAs request.now (self.old.front ++ self.old.rest) result }
         ensures own { CountsFaults self.old.own self.new.own result }
-        ensures unread { IsErrOf result SwiftFault.Failed → self.new.unread ≡ self.old.reply }
+        ensures unread { IsErrOf result SwiftFault.Failed → self.new.unread ≡ self.old.front }
     {
-        let answer = replace(&mut self.reply, Bytes::new(self.alloc));
-        match read_answer(self.alloc, request, answer.as_slice()) {
+        let front = replace(&mut self.front, Bytes::new(self.alloc));
+        let rest = replace(&mut self.rest, Bytes::new(self.alloc));
+        match read_parted_answer(self.alloc, request, front.as_slice(), rest) {
             Ok(reply) => Ok(reply),
             Err(WireFault::Memory) => Err(SwiftFault::Memory),
             Err(WireFault::NotACall) => unreachable!(),
             Err(WireFault::NotAnAnswer) => {
-                self.unread = answer;
+                self.unread = front;
                 self.own = self.own.saturating_add(1);
                 Err(SwiftFault::Failed)
             }
@@ -109,8 +112,13 @@ impl<L: Link> Swift for SwiftClient<L> {
             self.own = self.own.saturating_add(1);
             return Err(SwiftFault::Failed);
         }
-        let bytes = write_call(self.alloc, &self.place, request)?;
-        match self.link.exchange(bytes.as_slice(), &mut self.reply) {
+        let written = write_call(self.alloc, &self.place, request)?;
+        match self.link.exchange(
+            written.head.as_slice(),
+            written.body(request),
+            &mut self.front,
+            &mut self.rest,
+        ) {
             Ok(()) => self.read(request),
             Err(LinkFault::Failed) => Err(SwiftFault::Failed),
             Err(LinkFault::Memory) => Err(SwiftFault::Memory),

@@ -21,43 +21,53 @@ const PIECE: usize = 65_536;
 /// which are held whole; one that was completed from parts may have more, and is then read by ranges alone.
 const MOST: u64 = 268_500_992;
 
-/// A whole answer, and whether the connection may serve another exchange.
+/// A whole answer, its head and its body, and whether the connection may serve another exchange.
 #[derive(Drop)]
 pub(crate) struct Received {
-    pub(crate) bytes: Bytes,
+    pub(crate) head: Bytes,
+    pub(crate) body: Bytes,
     pub(crate) stays: bool,
 }
 
+/// What the head of an answer says of its bytes: how many are its own, and how many the body's; and whether the connection stays open
+/// behind them.
+#[derive(Clone, Copy)]
+struct Size {
+    head: usize,
+    body: usize,
+    stays: bool,
+}
+
 /// Reads one whole answer. `head` says that the request was HEAD. Its head is parsed where a line of it came, and then
-/// its bytes are counted. Bytes behind it are an error, as far as they came with it.
+/// its bytes are counted. Those of the body are read to where they stay. Bytes behind it are an error, as far as they came with it.
 pub(crate) fn receive<S: Read>(alloc: Global, stream: &mut S, head: bool) -> io::Result<Received> {
-    let mut answer = Vec::new(alloc);
-    let (size, stays) = receive_front(alloc, stream, head, &mut answer)?;
-    receive_rest(stream, &mut answer, size)?;
-    let old = answer.starts_with(b"HTTP/1.0");
+    let mut front = Vec::new(alloc);
+    let size = receive_front(alloc, stream, head, &mut front)?;
+    let body = receive_body(alloc, stream, &mut front, &size)?;
+    let old = front.starts_with(b"HTTP/1.0");
     Ok(Received {
-        bytes: Bytes::from_vec(answer),
-        stays: stays && !old,
+        head: Bytes::from_vec(front),
+        body: Bytes::from_vec(body),
+        stays: size.stays && !old,
     })
 }
 
-/// Reads until the head is whole. How many bytes the answer has, and whether the connection stays open behind it.
+/// Reads until the head is whole. What came of the body stands behind it.
 fn receive_front<S: Read>(
     alloc: Global,
     stream: &mut S,
     head: bool,
     answer: &mut Vec<u8>,
-) -> io::Result<(usize, bool)> {
+) -> io::Result<Size> {
     let mut came = answer.len();
     'pieces: while came < HEAD_LIMIT {
         let count = receive_some(stream, answer, FRONT)?;
         if answer[came..].contains(&b'\n') {
             match received_announcement(alloc, head, answer)? {
                 Announced::More => {}
-                Announced::Answer { head, body, stays } => return Ok((
-                    size_to_receive(head, body)?,
-                    stays,
-                )),
+                Announced::Answer { head, body, stays } => {
+                    return size_to_receive(head, body, stays);
+                }
                 Announced::Bad => return Err(io::Error::from(ErrorKind::InvalidData)),
             }
         }
@@ -104,27 +114,45 @@ fn receive_once<S: Read>(stream: &mut S, buf: &mut [u8]) -> io::Result<usize>
     Err(io::Error::from(ErrorKind::Interrupted))
 }
 
-/// How many bytes a head and a body have together. More than [`MOST`] is an error, so that a store which announces what no
-/// answer has is not asked for it, and no memory is taken for it.
-fn size_to_receive(head: usize, body: u64) -> io::Result<usize> {
+/// The size of an answer. More than [`MOST`] in all is an error, so that a store which announces what no answer has is not asked
+/// for it, and no memory is taken for it.
+fn size_to_receive(head: usize, body: u64, stays: bool) -> io::Result<Size> {
     match (head as u64).checked_add(body) {
-        Some(size) if size <= MOST => Ok(size as usize),
+        Some(size) if size <= MOST => Ok(Size {
+            head,
+            body: body as usize,
+            stays,
+        }),
         _ => Err(io::Error::from(ErrorKind::InvalidData)),
     }
 }
 
-/// Reads on until the answer has `size` bytes. One more is asked for, so that bytes behind it are found out; room is taken for
-/// that one too, since an answer that grew beyond its room would take twice as much.
-fn receive_rest<S: Read>(stream: &mut S, answer: &mut Vec<u8>, size: usize) -> io::Result<()> {
-    let mut came = answer.len();
-    if came < size {
-        answer.reserve((size - came).saturating_add(1))?;
+/// The body of the answer. What came of it behind the head is moved out of `front`. There is room for one byte more, which
+/// is asked for.
+fn receive_body<S: Read>(
+    alloc: Global,
+    stream: &mut S,
+    front: &mut Vec<u8>,
+    size: &Size,
+) -> io::Result<Vec<u8>> {
+    let mut body = Vec::new(alloc);
+    if size.body > 0 {
+        body.reserve(size.body.saturating_add(1))?;
     }
+    body.extend_from_slice(&front[size.head.min(front.len())..])?;
+    front.truncate(size.head);
+    receive_rest(stream, &mut body, size.body)?;
+    Ok(body)
+}
+
+/// Reads on until the body has `size` bytes. One more is asked for, so that bytes behind it are found out.
+fn receive_rest<S: Read>(stream: &mut S, body: &mut Vec<u8>, size: usize) -> io::Result<()> {
+    let mut came = body.len();
     'pieces: while came < size {
-        if came == answer.len() {
-            answer.resize(came + PIECE.min(size - came + 1), 0)?;
+        if came == body.len() {
+            body.resize(came + PIECE.min((size - came).saturating_add(1)), 0)?;
         }
-        let count = receive_once(stream, &mut answer[came..])?;
+        let count = receive_once(stream, &mut body[came..])?;
         if count == 0 {
             return Err(io::Error::from(ErrorKind::UnexpectedEof));
         }
@@ -133,6 +161,6 @@ fn receive_rest<S: Read>(stream: &mut S, answer: &mut Vec<u8>, size: usize) -> i
     if came > size {
         return Err(io::Error::from(ErrorKind::InvalidData));
     }
-    answer.truncate(size);
+    body.truncate(size);
     Ok(())
 }

@@ -14,6 +14,9 @@ use std::time::Duration;
 use swift_requests::{Link, LinkFault};
 use wire_log::{Cause, Explains};
 
+/// A body of up to so many bytes is copied to stand behind its head, and both are sent by one write.
+const JOINED: usize = 16_384;
+
 /// Exchanges with the store at an address, one after the other, over a connection that is kept from one to the next.
 ///
 /// Before a request is sent, the connection is tested without waiting. Where the store has ended it, or sent bytes that
@@ -125,14 +128,21 @@ impl<R: Net + Drop> TcpLink<R> {
         self.connect()
     }
 
-    /// One exchange. The connection is kept only where it went well.
-    fn exchange_over_stream(&mut self, request: &[u8], reply: &mut Bytes) -> io::Result<()>
+    /// One exchange. The connection is kept only where it went well. The answer is parted behind its head.
+    fn exchange_over_stream(
+        &mut self,
+        head: &[u8],
+        body: &[u8],
+        front: &mut Bytes,
+        rest: &mut Bytes,
+    ) -> io::Result<()>
         ensures { self.new ≡ record self.old { stream = self.new.stream; fresh = self.new.fresh } }
     {
         let mut stream = self.take_ready_stream()?;
-        stream.write_all(request)?;
-        let answer = receive(self.alloc, &mut stream, request.starts_with(b"HEAD "))?;
-        *reply = answer.bytes;
+        send_link_request(self.alloc, &mut stream, head, body)?;
+        let answer = receive(self.alloc, &mut stream, head.starts_with(b"HEAD "))?;
+        *front = answer.head;
+        *rest = answer.body;
         if answer.stays {
             self.stream = Some(stream);
         }
@@ -159,9 +169,15 @@ impl<R: Net + Drop> Link for TcpLink<R> {
 
     ghost left = { λ l observable. absurd (true≢false (sym observable)) };
 
-    fn exchange(&mut self, request: &[u8], reply: &mut Bytes) -> Result<(), LinkFault> {
+    fn exchange(
+        &mut self,
+        head: &[u8],
+        body: &[u8],
+        front: &mut Bytes,
+        rest: &mut Bytes,
+    ) -> Result<(), LinkFault> {
         self.calls += 1;
-        match self.exchange_over_stream(request, reply) {
+        match self.exchange_over_stream(head, body, front, rest) {
             Ok(()) => {
                 self.failing = None;
                 Ok(())
@@ -181,6 +197,25 @@ impl<R: Net> Explains for TcpLink<R> {
     fn cause(&self) -> Option<Cause> {
         self.failing
     }
+}
+
+/// Sends a request. A store that refuses a small one by its head alone, and closes, has both pieces then, so the refusal can still be
+/// read; a longer body is written from where it stands.
+fn send_link_request<S: Write>(
+    alloc: Global,
+    stream: &mut S,
+    head: &[u8],
+    body: &[u8],
+) -> io::Result<()> {
+    if body.is_empty() || body.len() > JOINED {
+        stream.write_all(head)?;
+        return stream.write_all(body);
+    }
+    let mut request = Vec::new(alloc);
+    request.reserve(head.len().saturating_add(body.len()))?;
+    request.extend_from_slice(head)?;
+    request.extend_from_slice(body)?;
+    stream.write_all(request.as_slice())
 }
 
 /// Why an exchange failed with that error, under a limit of time of so many seconds. A read or a write past it is `WouldBlock`, and

@@ -4,5 +4,6 @@ pub mod ListLemmas
 pub mod ListTextLemmas
 pub mod ManifestLemmas
 pub mod MetaLemmas
+pub mod PartedLemmas
 pub mod SentLemmas
 pub mod lemmas

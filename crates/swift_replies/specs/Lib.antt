@@ -2,3 +2,4 @@ pub mod AnswerLaws
 pub mod AnswerText
 pub mod Answers
 pub mod Fields
+pub mod Parted

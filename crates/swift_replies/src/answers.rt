@@ -77,8 +77,8 @@ pub(crate) fn asks_head(call: &SwiftRequest) -> bool
     }
 }
 
-/// The reply that an answer gives to a call, if it gives one.
-fn reply_of(
+/// The reply that an answer gives to a call, if it gives one. The body of an object is copied.
+pub(crate) fn reply_of(
     alloc: Global,
     call: &SwiftRequest,
     status: u16,
@@ -98,7 +98,10 @@ fn reply_of(
         SwiftRequest::PutObject { .. } => put_object_reply(alloc, status, headers),
         SwiftRequest::PutManifest { .. } => put_manifest_reply(alloc, status, headers),
         SwiftRequest::HeadObject { .. } => head_object_reply(alloc, status, headers),
-        SwiftRequest::GetObject { range, .. } => bytes_reply(alloc, *range, status, headers, body),
+        SwiftRequest::GetObject { range, .. } => {
+            let body = Bytes::from_slice(alloc, body)?;
+            bytes_reply(alloc, *range, status, headers, body)
+        }
         SwiftRequest::GetManifest { .. } => get_manifest_reply(alloc, status, headers, body),
         SwiftRequest::DeleteObject { .. } => Ok(gone(status)),
     }
@@ -259,18 +262,19 @@ fn head_reply(alloc: Global, headers: &[Pair]) -> Result<Option<SwiftReply>, Mem
     }
 }
 
-fn bytes_reply(
+/// What a GET of an object is answered. The body is moved.
+pub(crate) fn bytes_reply(
     alloc: Global,
     range: Option<(u64, u64)>,
     status: u16,
     headers: &[Pair],
-    body: &[u8],
+    body: Bytes,
 ) -> Result<Option<SwiftReply>, Memory>
-    ensures { IfOk result (λ reply. reply ≡ bytes_reply range status headers.now body.now) }
+    ensures { IfOk result (λ reply. reply ≡ bytes_reply range status headers.now body) }
 {
     if status == 200 {
         let head = head_in(alloc, answer_content_length(headers), headers)?;
-        return sized_bytes_reply(alloc, range, head, body);
+        return Ok(sized_bytes_reply(range, head, body));
     }
     if status == 206 {
         return part_reply(alloc, range, headers, body);
@@ -286,14 +290,14 @@ fn part_reply(
     alloc: Global,
     range: Option<(u64, u64)>,
     headers: &[Pair],
-    body: &[u8],
+    body: Bytes,
 ) -> Result<Option<SwiftReply>, Memory>
-    ensures { IfOk result (λ reply. reply ≡ part_reply range headers.now body.now) }
+    ensures { IfOk result (λ reply. reply ≡ part_reply range headers.now body) }
 {
     match range {
         Some(range) => {
             let head = head_in(alloc, whole_size_in(headers), headers)?;
-            sized_bytes_reply(alloc, Some(range), head, body)
+            Ok(sized_bytes_reply(Some(range), head, body))
         }
         None => Ok(None),
     }
@@ -310,21 +314,17 @@ fn beyond(range: Option<(u64, u64)>) -> Option<SwiftReply>
 
 /// The bytes of an object, where they are as many as its size and the range say.
 fn sized_bytes_reply(
-    alloc: Global,
     range: Option<(u64, u64)>,
     head: Option<StoredHead>,
-    body: &[u8],
-) -> Result<Option<SwiftReply>, Memory>
-    ensures { IfOk result (λ reply. reply ≡ sized_bytes_reply range head body.now) }
+    body: Bytes,
+) -> Option<SwiftReply>
+    ensures { result ≡ sized_bytes_reply range head body }
 {
-    let Some(head) = head else {
-        return Ok(None);
-    };
+    let head = head?;
     if is_part(range, head.size, body.len()) {
-        let body = Bytes::from_slice(alloc, body)?;
-        Ok(Some(SwiftReply::Bytes { head, body }))
+        Some(SwiftReply::Bytes { head, body })
     } else {
-        Ok(None)
+        None
     }
 }
 

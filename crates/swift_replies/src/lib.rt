@@ -10,6 +10,7 @@ mod list_text;
 mod lists;
 mod manifests;
 mod objects;
+mod parted;
 mod values;
 mod written;
 
@@ -18,4 +19,5 @@ pub use answers::read_answer;
 pub use fault::WireFault;
 pub use fields::{container_created_in, container_readers_by_value, meta_in};
 pub use manifests::spelled_segments_in;
+pub use parted::read_parted_answer;
 pub use written::{refusal, write_answer};

@@ -126,6 +126,21 @@ body_of (GetObject container name range) = []
 body_of (GetManifest container name) = []
 body_of (DeleteObject container name) = []
 
+-- what is sent behind the head of a call for which that body was made: an object's bytes are the call's own
+abbrev pub body_with : SwiftRequest → List ℕ → List ℕ
+body_with (ListContainers marker limit) made = made
+body_with (HeadContainer container) made = made
+body_with (PutContainer container readers created) made = made
+body_with (PostContainer container readers) made = made
+body_with (DeleteContainer container) made = made
+body_with (ListNames container prefix marker limit) made = made
+body_with (PutObject container name content_type meta body) made = body
+body_with (PutManifest container name content_type meta segments) made = made
+body_with (HeadObject container name) made = made
+body_with (GetObject container name range) made = made
+body_with (GetManifest container name) made = made
+body_with (DeleteObject container name) made = made
+
 -- all in their order
 abbrev pub call_fields : Place → SwiftRequest → List Header
 call_fields place call =

@@ -4,7 +4,7 @@ ghost use Rattle.http1.specs.Head.{print_header, print_headers};
 ghost use Rattle.swift_calls.specs.Step.{Fit};
 ghost use Rattle.swift_requests.specs.Place.{IsPlace};
 ghost use Rattle.swift_requests.specs.Calls.{SpellsRequest};
-ghost use Rattle.swift_requests.specs.CallText.{method_text, body_of, line_text, call_fields, own_fields, content_fields, readers_field, range_field, range_fields, call_text};
+ghost use Rattle.swift_requests.specs.CallText.{method_text, body_of, body_with, line_text, call_fields, own_fields, content_fields, readers_field, range_field, range_fields, call_text};
 ghost use Rattle.swift_replies.specs.AnswerText.{readers_text, created_fields, meta_fields};
 
 use crate::Place;
@@ -16,53 +16,76 @@ use std::alloc::Global;
 use swift_calls::{ReadList, SwiftRequest};
 use text_forms::append_decimal;
 
-/// Room for most heads, so that no body is moved as its text grows.
+/// Room for most heads, so that they are not moved as their text grows.
 const HEAD_ROOM: usize = 1024;
 
-/// The request of a call at the place: one whole message that spells the call, with the place's host and token and the
-/// length of its body, which is copied once. The call is within the limits of a store, and so the head has less than
-/// 16,384 bytes and fewer than 100 fields.
-pub fn write_call(alloc: Global, place: &Place, call: &SwiftRequest) -> Result<Bytes, Memory>
-    requires place { IsPlace place.now }
-    requires fit { Fit call.now }
-    ensures text { IfOk result (λ bytes. bytes ≡ call_text place.now call.now) }
-    ensures spells { IfOk result (λ bytes. SpellsRequest place.now call.now bytes) }
-{
-    match call {
-        SwiftRequest::PutObject { body, .. } => write_call_with_body(
-            alloc,
-            place,
-            call,
-            body.as_slice(),
-        ),
-        SwiftRequest::PutManifest { segments, .. } => {
-            let body = write(alloc, segments.as_slice(), Form::Put)?;
-            write_call_with_body(alloc, place, call, body.as_slice())
+/// The request of a call, in two pieces: its head, and what was made to stand behind it. The bytes of an object that is put aren't
+/// made, they are the call's own.
+#[derive(Debug, Drop)]
+pub struct WrittenCall {
+    pub head: Bytes,
+    pub made: Bytes,
+}
+
+impl WrittenCall {
+    /// What stands behind the head, where this was written for the call.
+    pub fn body<'a>(&'a self, call: &'a SwiftRequest) -> &'a [u8]
+        ensures { result.now ≡ body_with call.now self.now.made }
+    {
+        match call {
+            SwiftRequest::PutObject { body, .. } => body.as_slice(),
+            _ => self.made.as_slice(),
         }
-        _ => write_call_with_body(alloc, place, call, b""),
     }
 }
 
-/// The same with the call's body.
+/// The request of a call at the place: one whole message that spells the call, with the place's host and token and the
+/// length of its body. The bytes of an object aren't copied: [`WrittenCall::body`] lends them. The call is within the limits of
+/// a store, and so the head has less than 16,384 bytes and fewer than 100 fields.
+pub fn write_call(alloc: Global, place: &Place, call: &SwiftRequest) -> Result<WrittenCall, Memory>
+    requires place { IsPlace place.now }
+    requires fit { Fit call.now }
+    ensures text { IfOk result
+        (λ written. written.head ++ body_with call.now written.made ≡ call_text place.now call.now) }
+    ensures spells { IfOk result (λ written. SpellsRequest place.now call.now
+        (written.head ++ body_with call.now written.made)) }
+{
+    match call {
+        SwiftRequest::PutObject { body, .. } => {
+            write_call_with_body(alloc, place, call, body.len(), Bytes::new(alloc))
+        }
+        SwiftRequest::PutManifest { segments, .. } => {
+            let made = write(alloc, segments.as_slice(), Form::Put)?;
+            let size = made.len();
+            write_call_with_body(alloc, place, call, size, made)
+        }
+        _ => write_call_with_body(alloc, place, call, 0, Bytes::new(alloc)),
+    }
+}
+
+/// The same with the body that was made for it, and the length of what is sent.
 fn write_call_with_body(
     alloc: Global,
     place: &Place,
     call: &SwiftRequest,
-    body: &[u8],
-) -> Result<Bytes, Memory>
+    size: usize,
+    made: Bytes,
+) -> Result<WrittenCall, Memory>
     requires place { IsPlace place.now }
     requires fit { Fit call.now }
-    requires body { body.now ≡ body_of call.now }
-    ensures text { IfOk result (λ bytes. bytes ≡ call_text place.now call.now) }
-    ensures spells { IfOk result (λ bytes. SpellsRequest place.now call.now bytes) }
+    requires body { body_with call.now made ≡ body_of call.now }
+    requires size { size ≡ length (body_of call.now) }
+    ensures text { IfOk result
+        (λ written. written.head ++ body_with call.now written.made ≡ call_text place.now call.now) }
+    ensures spells { IfOk result (λ written. SpellsRequest place.now call.now
+        (written.head ++ body_with call.now written.made)) }
 {
     law_call_reads_back();
-    let mut text = Bytes::with_room(alloc, body.len().saturating_add(HEAD_ROOM))?;
-    append_request_line(alloc, &mut text, place, call)?;
-    append_call_fields(&mut text, place, call, body.len())?;
-    text.append(b"\r\n")?;
-    text.append(body)?;
-    Ok(text)
+    let mut head = Bytes::with_room(alloc, HEAD_ROOM)?;
+    append_request_line(alloc, &mut head, place, call)?;
+    append_call_fields(&mut head, place, call, size)?;
+    head.append(b"\r\n")?;
+    Ok(WrittenCall { head, made })
 }
 
 fn method_text(call: &SwiftRequest) -> &'static [u8]

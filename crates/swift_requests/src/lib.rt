@@ -13,7 +13,7 @@ mod place;
 mod ranges;
 
 pub use call_reader::read_call;
-pub use call_writer::write_call;
+pub use call_writer::{WrittenCall, write_call};
 pub use laws::{law_call_head_fits, law_call_reads_back, law_one_call};
 pub use link::{Link, LinkFault};
 pub use place::{Place, has_account_token, is_place};

@@ -1,5 +1,5 @@
 //! What brings a request to a store and its answer back.
-ghost use Rattle.std.specs.Prelude.{◌≡◌, ◌<◌, IsTrue};
+ghost use Rattle.std.specs.Prelude.{◌≡◌, ◌<◌, ◌++◌, IsTrue};
 ghost use Rattle.swift_calls.specs.History.{History, IsHistory, budget};
 ghost use Rattle.swift_requests.specs.Link.{Exchanges};
 ghost use Rattle.swift_requests.specs.declared.place.Place.{Place};
@@ -43,15 +43,23 @@ pub trait Link: Counted {
     /// Where the store's account is: what a request has to name to be one of this store.
     ghost place: { Self → Place };
 
-    /// Sends the bytes of one request, and puts the bytes of one whole answer into `reply`, in place of what it holds.
+    /// Sends the bytes of one request, which are those of `head` and behind them those of `body`, and puts the bytes of one whole
+    /// answer into `front` and `rest`, in place of what they hold: those of `front`, and behind them those of `rest`. So neither
+    /// is copied to stand in one piece; where an answer is parted isn't said, and either of its pieces may be empty.
     /// Failed comes only with a higher count of faults, and never where the history is sure: the request took no effect
     /// or its whole effect. Memory comes where the answer could not be received, after no effect or the whole effect, or
-    /// before the request was sent, and then the exchange may not be counted. What `reply` holds after a fault isn't said.
-    fn exchange(&mut self, request: &[u8], reply: &mut Bytes) -> Result<(), LinkFault>
+    /// before the request was sent, and then the exchange may not be counted. What the two hold after a fault isn't said.
+    fn exchange(
+        &mut self,
+        head: &[u8],
+        body: &[u8],
+        front: &mut Bytes,
+        rest: &mut Bytes,
+    ) -> Result<(), LinkFault>
         requires { Self.called self.old < budget }
         ensures place { place self.new ≡ place self.old }
-        ensures exchanges { Exchanges (place self.old) (history self.old) request.now reply.new
-            result (history self.new) };
+        ensures exchanges { Exchanges (place self.old) (history self.old) (head.now ++ body.now)
+            (front.new ++ rest.new) result (history self.new) };
 
     /// The exchanges of the history are those that are counted.
     ghost counted: { (link : Self) → (history link).called ≡ Self.called link };

@@ -6,6 +6,6 @@ use Rattle.swift_requests.proofs.call_writer.write_call.Goals as goal
 
 pub write-requires : goal.write-requires
 write-requires c =
-    ap is_manifest c.as_slice-in-PutManifest.ensures
+    ap is_manifest c.as_slice.ensures
     ∙ manifest_fit c.in-PutManifest.container c.in-PutManifest.name c.in-PutManifest.content_type c.in-PutManifest.meta c.in-PutManifest.segments
     (subst Fit c.in-PutManifest.is c.requires.fit)

@@ -1,7 +1,8 @@
-use Rattle.std.proofs.Common.{◌<◌, arith, sym, subst}
+use Rattle.std.proofs.Common.{◌≡◌, ◌<◌, ◌++◌, ◌∙◌, ap, arith, sym, subst}
 use Rattle.std.proofs.lemmas.Bool.Decides.{nat_tests}
 use Rattle.swift_calls.specs.History.{budget}
 use Rattle.swift_requests.specs.Calls.{SpellsRequest}
+use Rattle.swift_requests.specs.CallText.{body_with}
 use Rattle.swift_client.proofs.Calling.{read_as, lost, unread}
 use Rattle.swift_client.proofs.client.SwiftClientSwift.call.Goals as goal
 
@@ -11,7 +12,9 @@ returns-in-Ok g c =
     let called = c.calls.ensures in
     let more = c.if-calls-ge-CALL_LIMIT.false in
     let left : (g.L.Link.history c.args.self.now.link).called < budget = grind (arith, nat_tests) in
-    let spells = subst (λ bytes. SpellsRequest c.args.self.now.place c.args.request.now bytes) (sym c.as_slice.ensures) c.in_ok-bytes.ensures.spells in
+    let sent : c.as_slice.result.now ++ c.body.result.now ≡ c.in_ok-written.written.head ++ body_with c.args.request.now c.in_ok-written.written.made =
+    ap (λ head. head ++ c.body.result.now) c.as_slice.ensures ∙ ap (λ body. c.in_ok-written.written.head ++ body) c.body.ensures in
+    let spells = subst (SpellsRequest c.args.self.now.place c.args.request.now) (sym sent) c.in_ok-written.ensures.spells in
     rw (c.read.ensures.link, c.read.ensures.place)
     (read_as _ _ _ _ _ left c.requires _ _ spells _ _ c.exchange.ensures.place c.in-Ok.ensures.exchanges _ _ c.read.ensures.reads c.read.ensures.own)
 
@@ -21,7 +24,9 @@ returns-in-Err-Failed g c =
     let called = c.calls.ensures in
     let more = c.if-calls-ge-CALL_LIMIT.false in
     let left : (g.L.Link.history c.args.self.now.link).called < budget = grind (arith, nat_tests) in
-    let spells = subst (λ bytes. SpellsRequest c.args.self.now.place c.args.request.now bytes) (sym c.as_slice.ensures) c.in_ok-bytes.ensures.spells in
+    let sent : c.as_slice.result.now ++ c.body.result.now ≡ c.in_ok-written.written.head ++ body_with c.args.request.now c.in_ok-written.written.made =
+    ap (λ head. head ++ c.body.result.now) c.as_slice.ensures ∙ ap (λ body. c.in_ok-written.written.head ++ body) c.body.ensures in
+    let spells = subst (SpellsRequest c.args.self.now.place c.args.request.now) (sym sent) c.in_ok-written.ensures.spells in
     lost _ _ _ _ _ left c.requires _ _ spells _ _ c.exchange.ensures.place _ c.in-Err-Failed.field-0-is c.in-Err-Failed.ensures.exchanges
 
 pub returns : goal.returns
@@ -30,5 +35,7 @@ returns g c =
     let called = c.calls.ensures in
     let more = c.if-calls-ge-CALL_LIMIT.false in
     let left : (g.L.Link.history c.args.self.now.link).called < budget = grind (arith, nat_tests) in
-    let spells = subst (λ bytes. SpellsRequest c.args.self.now.place c.args.request.now bytes) (sym c.as_slice.ensures) c.in_ok-bytes.ensures.spells in
+    let sent : c.as_slice.result.now ++ c.body.result.now ≡ c.in_ok-written.written.head ++ body_with c.args.request.now c.in_ok-written.written.made =
+    ap (λ head. head ++ c.body.result.now) c.as_slice.ensures ∙ ap (λ body. c.in_ok-written.written.head ++ body) c.body.ensures in
+    let spells = subst (SpellsRequest c.args.self.now.place c.args.request.now) (sym sent) c.in_ok-written.ensures.spells in
     unread _ _ _ _ _ left c.requires _ _ spells _ _ c.exchange.ensures.place _ c.in-Err-Memory.field-0-is c.in-Err-Memory.ensures.exchanges
