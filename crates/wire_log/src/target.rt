@@ -1,5 +1,8 @@
 //! The first line of a request as a log shows it.
-ghost use Rattle.std.specs.Prelude.{◌<◌, IfSome};
+ghost use Rattle.std.specs.Prelude.{◌≡◌, ◌<◌, ◌≤◌, true, IfSome, OnOk};
+ghost use Rattle.std.specs.List.{list_all};
+ghost use Rattle.gate_base.specs.Fields.{is_printable};
+ghost use Rattle.wire_log.specs.Plain.{is_letter, IsPlain, StaysPlain};
 
 use gate_base::{Bytes, Memory};
 
@@ -18,15 +21,16 @@ const HIDDEN: [&[u8]; 4] = [
     b"signature",
 ];
 
-const HEX: &[u8; 16] = b"0123456789abcdef";
-
 /// Appends the method and the target of a request's first line, with a space between them; `-` for a method that isn't 1 to 32
 /// letters, and for a target that doesn't begin with a slash.
 ///
 /// Of a target the first 1,024 bytes are shown, as they are escaped: a backslash, and a byte that is no visible ASCII, is `\xHH`
 /// with two lower-case hexadecimal digits. `...` stands for the values of the parameters `X-Amz-Signature`, `X-Amz-Credential`,
-/// `X-Amz-Security-Token` and `Signature`, however their names are written.
-pub fn append_request_for_log(text: &mut Bytes, line: &[u8]) -> Result<(), Memory> {
+/// `X-Amz-Security-Token` and `Signature`, however their names are written. So whatever the request's bytes are, a text that was
+/// visible ASCII and spaces is so still, and no line is ended by them.
+pub fn append_request_for_log(text: &mut Bytes, line: &[u8]) -> Result<(), Memory>
+    ensures plain { OnOk result (StaysPlain text.old text.new) }
+{
     let (method, rest) = split_logged_text(line, b' ');
     if !is_loggable_method(method) {
         return text.append(b"- -");
@@ -46,7 +50,9 @@ pub(crate) fn logged_query(line: &[u8]) -> &[u8] {
 }
 
 /// Appends the names of the parameters of a request's first line, each behind a space and a question mark; in 1,024 bytes at most.
-pub(crate) fn append_query_names_for_log(text: &mut Bytes, line: &[u8]) -> Result<(), Memory> {
+pub(crate) fn append_query_names_for_log(text: &mut Bytes, line: &[u8]) -> Result<(), Memory>
+    ensures plain { OnOk result (StaysPlain text.old text.new) }
+{
     let mut left = MOST;
     let mut rest = logged_query(line);
     for _parameter in 0..MOST {
@@ -63,7 +69,9 @@ pub(crate) fn append_query_names_for_log(text: &mut Bytes, line: &[u8]) -> Resul
 }
 
 /// Appends a text as it stands in a target, behind a space; `-` where it has no byte.
-pub(crate) fn append_name_for_log(text: &mut Bytes, name: &[u8]) -> Result<(), Memory> {
+pub(crate) fn append_name_for_log(text: &mut Bytes, name: &[u8]) -> Result<(), Memory>
+    ensures plain { OnOk result (StaysPlain text.old text.new) }
+{
     text.append(b" ")?;
     if name.is_empty() {
         return text.append(b"-");
@@ -80,13 +88,28 @@ pub(crate) fn split_logged_text(bytes: &[u8], byte: u8) -> (&[u8], &[u8]) {
     }
 }
 
-fn is_loggable_method(method: &[u8]) -> bool {
-    0 < method.len()
-        && method.len() <= LONGEST_METHOD
-        && method.iter().all(|byte| byte.is_ascii_alphabetic())
+#[tactic(auto, using(crate::proofs::PlainLemmas::letters_are_plain))]
+fn is_loggable_method(method: &[u8]) -> bool
+    ensures { result ≡ true → IsPlain method.now }
+{
+    0 < method.len() && method.len() <= LONGEST_METHOD && are_logged_letters(method)
 }
 
-fn append_target_for_log(text: &mut Bytes, target: &[u8]) -> Result<(), Memory> {
+fn are_logged_letters(text: &[u8]) -> bool
+    ensures { result ≡ list_all is_letter text.now }
+{
+    text.iter().all(|byte| is_logged_letter(*byte))
+}
+
+fn is_logged_letter(byte: u8) -> bool
+    ensures { result ≡ is_letter byte }
+{
+    byte.is_ascii_alphabetic()
+}
+
+fn append_target_for_log(text: &mut Bytes, target: &[u8]) -> Result<(), Memory>
+    ensures plain { OnOk result (StaysPlain text.old text.new) }
+{
     if !target.starts_with(b"/") {
         return text.append(b"-");
     }
@@ -99,7 +122,9 @@ fn append_target_for_log(text: &mut Bytes, target: &[u8]) -> Result<(), Memory> 
 }
 
 /// Appends the parameters, in so many bytes at most.
-fn append_query_for_log(text: &mut Bytes, query: &[u8], room: usize) -> Result<(), Memory> {
+fn append_query_for_log(text: &mut Bytes, query: &[u8], room: usize) -> Result<(), Memory>
+    ensures plain { OnOk result (StaysPlain text.old text.new) }
+{
     let mut left = room;
     let mut rest = query;
     for _parameter in 0..MOST {
@@ -121,7 +146,9 @@ fn append_parameter_for_log(
     text: &mut Bytes,
     parameter: &[u8],
     room: usize,
-) -> Result<usize, Memory> {
+) -> Result<usize, Memory>
+    ensures plain { OnOk result (StaysPlain text.old text.new) }
+{
     let (name, _value) = split_logged_text(parameter, b'=');
     if name.len() == parameter.len() || !is_hidden_in_log(name) {
         return append_escaped_for_log(text, parameter, room);
@@ -131,7 +158,9 @@ fn append_parameter_for_log(
 }
 
 /// Appends the bytes escaped, as many as there is room for. How much room is left: none where one had to be left out.
-fn append_escaped_for_log(text: &mut Bytes, bytes: &[u8], room: usize) -> Result<usize, Memory> {
+fn append_escaped_for_log(text: &mut Bytes, bytes: &[u8], room: usize) -> Result<usize, Memory>
+    ensures plain { OnOk result (StaysPlain text.old text.new) }
+{
     let mut left = room;
     for byte in bytes {
         if left == 0 {
@@ -142,18 +171,35 @@ fn append_escaped_for_log(text: &mut Bytes, bytes: &[u8], room: usize) -> Result
     Ok(left)
 }
 
-fn append_byte_for_log(text: &mut Bytes, byte: u8, room: usize) -> Result<usize, Memory> {
+fn append_byte_for_log(text: &mut Bytes, byte: u8, room: usize) -> Result<usize, Memory>
+    ensures plain { OnOk result (StaysPlain text.old text.new) }
+{
     if byte.is_ascii_graphic() && byte != b'\\' {
         append_piece_for_log(text, &[byte], room)
     } else {
-        let high = HEX[(byte >> 4) as usize];
-        let low = HEX[(byte & 15) as usize];
+        let high = hex_digit_for_log(byte / 16);
+        let low = hex_digit_for_log(byte % 16);
         append_piece_for_log(text, &[b'\\', b'x', high, low], room)
     }
 }
 
+/// The lower-case hexadecimal digit of a value below 16.
+fn hex_digit_for_log(value: u8) -> u8
+    requires { value < 16 }
+    ensures { is_printable result ≡ true }
+{
+    if value < 10 {
+        b'0' + value
+    } else {
+        b'a' + (value - 10)
+    }
+}
+
 /// Appends a piece where there is room for all of it.
-fn append_piece_for_log(text: &mut Bytes, piece: &[u8], room: usize) -> Result<usize, Memory> {
+fn append_piece_for_log(text: &mut Bytes, piece: &[u8], room: usize) -> Result<usize, Memory>
+    requires { IsPlain piece.now }
+    ensures plain { OnOk result (StaysPlain text.old text.new) }
+{
     if room < piece.len() {
         return Ok(0);
     }
