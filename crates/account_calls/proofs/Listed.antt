@@ -11,15 +11,19 @@ use Rattle.account_calls.specs.declared.fault.PlanFault.{PlanFault}
 use Rattle.account_calls.specs.declared.fault.PlanFault.TheVariants.{Failed, Memory, Inconsistent}
 use Rattle.account_calls.specs.Answers.{pages}
 use Rattle.account_calls.specs.Listing.{TellsOf, TellsNames, TellsItems, TellsBuckets, HasNames, item_at}
-use Rattle.account_calls.specs.Calls.{always, by_account, Met, Keeps, Asks, Tells}
+use Rattle.account_calls.specs.Calls.{always, by_account, Any, Met, Keeps, Asks, Tells}
 use Rattle.account_calls.proofs.Made.{bucket_items_are, len_is}
 use Rattle.account_calls.proofs.lemmas.Idle.{goes_trans}
 use Rattle.account_calls.specs.Told.{Idles}
 use Rattle.account_calls.proofs.lemmas.Walk.{idles_trans, cause_after, keeps_after}
 
-module _ {a b : History} {names : List (List ℕ)} (first : Asks (by_account (pages (len (present a)))) a b IsSettled (TellsOf TellsNames) (Ok names)) where
+module _ {a b : History} {names : List (List ℕ)} (first : Asks (by_account (pages (len (present a)))) a b Any (TellsOf TellsNames) (Ok names)) where
+  -- a settled account is any
+  met_any : Met IsSettled a → Met Any a
+  met_any met = record { observable = met.observable; sound = met.sound; has = tt }
+
   idles_first : Met IsSettled a → Idles b a.called b.called
-  idles_first met = let keeps = first.effect met in record { quiet = keeps.0; still = keeps.1; same = keeps.2.same }
+  idles_first met = let keeps = first.effect (met_any met) in record { quiet = keeps.0; still = keeps.1; same = keeps.2.same }
 
   same_first : Met IsSettled a → present b ≡ present a
   same_first met = let order = first.grows.on.ordered in (idles_first met).same ∙ (first.grows.on.kept met.observable).accounts a.called (omega arith)
@@ -27,7 +31,7 @@ module _ {a b : History} {names : List (List ℕ)} (first : Asks (by_account (pa
   named : Met IsSettled a → names ≡ keys (present a)
   named met =
       let order = first.grows.on.ordered in
-      (first.effect met).2.of_account ∙ ap keys ((first.grows.on.kept met.observable).accounts a.called (omega arith))
+      (first.effect (met_any met)).2.of_account ∙ ap keys ((first.grows.on.kept met.observable).accounts a.called (omega arith))
 
   met_names : Met IsSettled a → Met (HasNames names) b
   met_names met =
@@ -41,7 +45,7 @@ module _ {a b : History} {names : List (List ℕ)} (first : Asks (by_account (pa
   module _ {c : History} {r : Result (List BucketItem) PlanFault} (then : Asks (always (length (filter is_bucket names))) b c (HasNames names) (TellsOf (TellsItems names)) r) where
     within_both : Met IsSettled a → c.called ≤ a.called + (pages (len (present a)) + len (s3_state (present a)))
     within_both met =
-        let pages_made = first.grows.calls met in
+        let pages_made = first.grows.calls (met_any met) in
         let heads_made = then.grows.calls in
         let counted : length (filter is_bucket names) ≡ len (s3_state (present a)) = ap (λ ns. length (filter is_bucket ns)) (named met) ∙ sym (len_is (present a) met.has) in
         omega arith
@@ -81,7 +85,7 @@ module _ {a b : History} {names : List (List ℕ)} (first : Asks (by_account (pa
       as_told Inconsistent never = never
 
 -- the same of the names as they are handed on
-pub listed_of : {a b c : History} {names told : List (List ℕ)} → told ≡ names → Asks (by_account (pages (len (present a)))) a b IsSettled (TellsOf TellsNames) (Ok names)
+pub listed_of : {a b c : History} {names told : List (List ℕ)} → told ≡ names → Asks (by_account (pages (len (present a)))) a b Any (TellsOf TellsNames) (Ok names)
     → (r : Result (List BucketItem) PlanFault) → Asks (always (length (filter is_bucket told))) b c (HasNames told) (TellsOf (TellsItems told)) r
     → Asks (by_account (pages (len (present a)) + len (s3_state (present a)))) a c IsSettled (Tells TellsBuckets) r
-listed_of {a = a} {b = b} is first r then = listed (subst (λ ns. Asks (by_account (pages (len (present a)))) a b IsSettled (TellsOf TellsNames) (Ok ns)) (sym is) first) r then
+listed_of {a = a} {b = b} is first r then = listed (subst (λ ns. Asks (by_account (pages (len (present a)))) a b Any (TellsOf TellsNames) (Ok ns)) (sym is) first) r then

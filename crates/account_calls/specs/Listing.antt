@@ -74,9 +74,8 @@ TellsNames tree told = told ≡ keys tree
 abbrev pub TellsPage : List ℕ → SwiftAccount → List (List ℕ) → Type 0
 TellsPage marker tree told = told ≡ take most_names (after marker (keys tree))
 
--- a settled account, of which a listing may be asked for after this marker
+-- a listing of the account may be asked for after this marker, be the account settled or not
 pub record MayListAfter (marker : List ℕ) (tree : SwiftAccount) : Type 0 where
-  pub settled : IsSettled tree
   pub is_marker : IsMarker marker
 
 -- the marker of the next page, by a page: a shorter page is the last one

@@ -26,7 +26,7 @@ pub use file_pages::{next_marker, settled_file_page};
 pub use interpret::{interpret_file_delete, interpret_put_with_etag};
 pub use keys::list_objects;
 pub use laws::{law_answered_fault_free, law_never_unavailable};
-pub use listing::list_buckets;
+pub use listing::{container_names, list_buckets};
 pub use object::{delete_object, get_object, head_object, put_object};
 pub use plans::{is_many, is_upload, reply_of, taken_text};
 pub use puts::etag_of_put;

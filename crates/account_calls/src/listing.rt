@@ -8,7 +8,7 @@ ghost use Rattle.s3_machine.specs.Shown.{IsShownBucket};
 ghost use Rattle.swift_calls.specs.History.{budget, present};
 ghost use Rattle.upload_records.specs.Native.{IsSettled, s3_state};
 ghost use Rattle.account_calls.specs.Answers.{pages};
-ghost use Rattle.account_calls.specs.Calls.{always, by_account, Asks, Tells};
+ghost use Rattle.account_calls.specs.Calls.{always, by_account, Any, Asks, Tells};
 ghost use Rattle.account_calls.specs.Lent.{Stays};
 ghost use Rattle.account_calls.specs.Listing.{
   ascends,
@@ -44,14 +44,10 @@ const MOST_NAMES: u32 = 1000;
 
 /// A page of the names of the containers after a marker, by GET of the account (Object Storage API v1, "Show account
 /// details and list containers").
-fn container_names_page<W: Swift>(
-    state: &mut Settled<'_, W>,
-    marker: &Bytes,
-) -> Result<List<Bytes>, PlanFault>
-    ensures stays { Stays state.old state.new }
-    ensures counted { IfOk result (λ _. (W.history state.old.store.now).called < budget
-        × ((W.history state.new.store.now).called ≡ (W.history state.old.store.now).called + 1)) }
-    ensures asks { Asks (always 1) (W.history state.old.store.now) (W.history state.new.store.now)
+fn container_names_page<W: Swift>(store: &mut W, marker: &Bytes) -> Result<List<Bytes>, PlanFault>
+    ensures counted { IfOk result (λ _. (W.history store.old).called < budget
+        × ((W.history store.new).called ≡ (W.history store.old).called + 1)) }
+    ensures asks { Asks (always 1) (W.history store.old) (W.history store.new)
         (MayListAfter marker.now) (TellsOf (TellsPage marker.now)) result }
 {
     let request = SwiftRequest::ListContainers {
@@ -62,7 +58,7 @@ fn container_names_page<W: Swift>(
         drop(request);
         return Err(PlanFault::Inconsistent);
     }
-    let reply = ask(state.store, request)?;
+    let reply = ask(store, request)?;
     interpret_container_names(marker.as_slice(), reply)
 }
 
@@ -99,17 +95,16 @@ fn ascends(marker: &[u8], names: &[Bytes]) -> bool
 
 /// Adds a page of names. What is told is the marker of the next page, and `None` after the last one.
 fn add_container_names_page<W: Swift>(
-    state: &mut Settled<'_, W>,
+    store: &mut W,
     names: &mut List<Bytes>,
     marker: &Bytes,
 ) -> Result<Option<Bytes>, PlanFault>
-    ensures stays { Stays state.old state.new }
-    ensures counted { IfOk result (λ _. (W.history state.old.store.now).called < budget
-        × ((W.history state.new.store.now).called ≡ (W.history state.old.store.now).called + 1)) }
-    ensures asks { Asks (always 1) (W.history state.old.store.now) (W.history state.new.store.now)
+    ensures counted { IfOk result (λ _. (W.history store.old).called < budget
+        × ((W.history store.new).called ≡ (W.history store.old).called + 1)) }
+    ensures asks { Asks (always 1) (W.history store.old) (W.history store.new)
         (MayListAfter marker.now) (TellsOf (TellsNext marker.now names.old names.new)) result }
 {
-    let page = container_names_page(state, marker)?;
+    let page = container_names_page(store, marker)?;
     add_container_names(names, page.as_slice())?;
     Ok(next_marker(page.as_slice())?)
 }
@@ -239,24 +234,22 @@ pub fn list_buckets<W: Swift>(
         (s3_state (present (W.history state.old.store.now))))) (W.history state.old.store.now)
         (W.history state.new.store.now) IsSettled (Tells TellsBuckets) result }
 {
-    let names = container_names(alloc, state)?;
+    let names = container_names(alloc, state.store)?;
     buckets_of_containers(alloc, state, names.as_slice())
 }
 
-/// The names of all containers, page by page.
-fn container_names<W: Swift>(
-    alloc: Global,
-    state: &mut Settled<'_, W>,
-) -> Result<List<Bytes>, PlanFault>
-    ensures stays { Stays state.old state.new }
-    ensures asks { Asks (by_account (pages (len (present (W.history state.old.store.now)))))
-        (W.history state.old.store.now) (W.history state.new.store.now) IsSettled
+/// The names of all containers in byte order, page by page, be a completion sealed or not. At most as many calls as there are
+/// pages of names, where the store is observable and its account consistent; and the account stays. Faults as for
+/// [`list_buckets`].
+pub fn container_names<W: Swift>(alloc: Global, store: &mut W) -> Result<List<Bytes>, PlanFault>
+    ensures asks { Asks (by_account (pages (len (present (W.history store.old)))))
+        (W.history store.old) (W.history store.new) Any
         (TellsOf TellsNames) result }
 {
     let mut names = List::new(alloc);
     let mut marker = Bytes::new(alloc);
     'pages: loop {
-        match add_container_names_page(state, &mut names, &marker)? {
+        match add_container_names_page(store, &mut names, &marker)? {
             Some(next) => marker = next,
             None => return Ok(names),
         }

@@ -30,7 +30,7 @@ use swift_calls::Swift;
 /// ServiceUnavailable, only where the store's count of faults rose in this call: the last call failed, no earlier one did, and the
 /// state is the old one or the step's. Or it is `Memory`, where memory ran out, with the same two states. Or it is
 /// InconsistentStore, never over an observable consistent account. A call that failed is the last one. How many there are is
-/// bounded by the operation, also where the reply is a refusal.
+/// bounded by the operation, and where the reply is a refusal by the call that shows it.
 pub fn answer<W: Swift>(alloc: Global, state: &mut Settled<'_, W>, op: Op, label: &Label) -> Reading
     requires proper { IsProper op label.now }
     requires own { is_upload op ≡ false }

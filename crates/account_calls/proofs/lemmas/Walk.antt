@@ -21,7 +21,7 @@ use Rattle.account_calls.specs.Fault.{CausesFault}
 use Rattle.account_calls.specs.Listing.{after, TellsOf, TellsNames, TellsNext, MayListAfter}
 use Rattle.account_calls.specs.Stutters.{Stutters}
 use Rattle.account_calls.specs.Told.{Idles}
-use Rattle.account_calls.specs.Calls.{always, by_account, GoesOn, Met, Keeps, Asks}
+use Rattle.account_calls.specs.Calls.{always, by_account, Any, GoesOn, Met, Keeps, Asks}
 use Rattle.account_calls.proofs.lemmas.Agree.{quiet_agree, quiet_trans, failed_after}
 use Rattle.account_calls.proofs.lemmas.Faults.{err_is}
 use Rattle.account_calls.proofs.lemmas.Idle.{none_made, goes_none, goes_trans}
@@ -98,7 +98,7 @@ pub record Walked (a b : History) (marker : List ℕ) (names : List (List ℕ)) 
   pub on : GoesOn a b
   pub faults : b.faults ≡ a.faults
   pub settled : IsTrue a.observable → IsSettled (present a) → IsSettled (present b)
-  pub seen : Met IsSettled a → Seen a b marker names
+  pub seen : Met Any a → Seen a b marker names
 
 pub walked_none : (a : History) → Walked a a [] []
 walked_none a = record {
@@ -116,30 +116,30 @@ walked_none a = record {
 }
 
 module _ {a b : History} {marker : List ℕ} {names : List (List ℕ)} (walked : Walked a b marker names) where
-  met_here : Met IsSettled a → Met (MayListAfter marker) b
+  met_here : Met Any a → Met (MayListAfter marker) b
   met_here met =
       let seen = walked.seen met in
       let order = walked.on.ordered in
       record {
         observable = walked.on.observable met.observable;
         sound = seen.idles.quiet.sound b.called order (omega arith);
-        has = record { settled = walked.settled met.observable met.has; is_marker = seen.is_marker };
+        has = record { is_marker = seen.is_marker };
       }
 
   -- the account is still the one at the beginning
-  same_here : Met IsSettled a → present b ≡ present a
+  same_here : Met Any a → present b ≡ present a
   same_here met = (walked.seen met).idles.same ∙ (walked.on.kept met.observable).accounts a.called (omega arith)
 
   module _ {new : List (List ℕ)} {c : History} {told : Option (List ℕ)} (asks : Asks (always 1) b c (MayListAfter marker) (TellsOf (TellsNext marker names new)) (Ok told)) where
-    later : Met IsSettled a → Extends b.called b c
+    later : Met Any a → Extends b.called b c
     later met = asks.grows.on.kept (walked.on.observable met.observable)
 
-    idles_then : Met IsSettled a → Idles c a.called c.called
+    idles_then : Met Any a → Idles c a.called c.called
     idles_then met =
         let keeps = asks.effect (met_here met) in
         idles_trans walked.on.ordered (later met) (walked.seen met).idles (record { quiet = keeps.0; still = keeps.1; same = keeps.2.same })
 
-    tells_then : Met IsSettled a → TellsNext marker names new (present a) told
+    tells_then : Met Any a → TellsNext marker names new (present a) told
     tells_then met =
         let keeps = asks.effect (met_here met) in
         subst (λ tree. TellsNext marker names new tree told) ((later met).accounts b.called (omega arith) ∙ same_here met) keeps.2.of_account
@@ -168,7 +168,7 @@ module _ {a b : History} {marker : List ℕ} {names : List (List ℕ)} (walked :
     }
 
     -- the last page
-    pub walked_end : told ≡ None → Asks (by_account (pages (len (present a)))) a c IsSettled (TellsOf TellsNames) (Ok new)
+    pub walked_end : told ≡ None → Asks (by_account (pages (len (present a)))) a c Any (TellsOf TellsNames) (Ok new)
     walked_end is = record {
       grows = record {
         on = goes_trans walked.on asks.grows.on;
@@ -191,8 +191,8 @@ module _ {a b : History} {marker : List ℕ} {names : List (List ℕ)} (walked :
 
   -- a page that wasn't told
   pub walked_fault : {T : Type 0} {P : SwiftAccount → T → Type 0} {c : History} {f : PlanFault} → Asks (always 1) b c (MayListAfter marker) (TellsOf P) (Err f)
-      → (result : Result (List (List ℕ)) PlanFault) → IsErrAnd result (λ e. e ≡ f) → Asks (by_account (pages (len (present a)))) a c IsSettled (TellsOf TellsNames) result
-  walked_fault {T = T} {P = P} {c = c} {f = f} asks result is = subst (Asks (by_account (pages (len (present a)))) a c IsSettled (TellsOf TellsNames)) (sym (err_is result f is)) (record {
+      → (result : Result (List (List ℕ)) PlanFault) → IsErrAnd result (λ e. e ≡ f) → Asks (by_account (pages (len (present a)))) a c Any (TellsOf TellsNames) result
+  walked_fault {T = T} {P = P} {c = c} {f = f} asks result is = subst (Asks (by_account (pages (len (present a)))) a c Any (TellsOf TellsNames)) (sym (err_is result f is)) (record {
     grows = record {
       on = goes_trans walked.on asks.grows.on;
       calls = λ met.

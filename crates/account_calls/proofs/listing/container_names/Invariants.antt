@@ -1,14 +1,10 @@
 use Rattle.std.proofs.Common.{◌-◌}
 use Rattle.swift_calls.specs.History.{budget}
-use Rattle.account_calls.specs.Lent.{Stays}
 use Rattle.account_calls.proofs.lemmas.Walk.{Walked}
 use Rattle.account_calls.proofs.listing.container_names.Given as goal
 
 abbrev pub decreases-pages : goal.decreases-pages
-decreases-pages g l = budget - (g.W.Swift.history l.state.store.now).called
+decreases-pages g l = budget - (g.W.Swift.history l.store).called
 
 abbrev pub invariant-pages : goal.invariant-pages
-invariant-pages g l = record {
-  stays : Stays l.initial.state l.state;
-  walked : Walked (g.W.Swift.history l.initial.state.store.now) (g.W.Swift.history l.state.store.now) l.marker l.names;
-}
+invariant-pages g l = Walked (g.W.Swift.history l.initial.store) (g.W.Swift.history l.store) l.marker l.names
