@@ -1,1 +1,2 @@
+pub mod ListedItems
 pub mod MadeRows

@@ -1,13 +1,20 @@
 //! A shelf over a connection.
-ghost use Rattle.std.specs.Prelude.{◌≡◌, true, false, IfOk, IfSome, OnErr};
+ghost use Rattle.std.specs.Prelude.{◌≡◌, pos, true, false, [], ◌∷◌, ◌++◌, None, Ok, IfOk, IfSome, OnErr, OnOk};
+ghost use Rattle.std.specs.List.{All};
 ghost use Rattle.std.proofs.Common.{sym, true≢false};
 ghost use Rattle.gate_base.specs.Causes.{Rose};
 ghost use Rattle.swift_calls.specs.Bodies.{etag_of};
 ghost use Rattle.swift_calls.specs.Step.{IsMoment};
-ghost use Rattle.swift_store.specs.Shelf.{CountsStoreFaults};
+ghost use Rattle.swift_calls.specs.Account.{files, put_file};
+ghost use Rattle.swift_store.specs.Made.{IsMadeObject};
+ghost use Rattle.swift_store.specs.Shelf.{CountsStoreFaults, ShelfReads, ShelfWrites, object_of, object_page};
 ghost use Rattle.swift_store.specs.declared.faults.StoreFault.TheVariants as fault;
-ghost use Rattle.object_rows.specs.Rows.{HasRow};
-ghost use Rattle.kept_store.specs.Kept.{CountsFault, kept_model};
+ghost use Rattle.object_rows.specs.Rows.{HasRow, ReadsColumns, row_of};
+ghost use Rattle.sqlite.specs.Held.{state};
+ghost use Rattle.sqlite.specs.State.{HasCleanDisk, Executes};
+ghost use Rattle.sqlite.specs.Values.{bound};
+ghost use Rattle.kept_store.specs.Kept.{CountsFault, Executed, HasPrefix, kept_model, put_values};
+ghost use Rattle.kept_store.specs.declared.statements.TheConstants.{PUT};
 
 use crate::statements;
 use gate_base::{Bytes, List, Memory};
@@ -141,7 +148,11 @@ impl<S: Alter + Drop> KeptShelf<S> {
 
     /// How many rows a statement wrote. Each statement that writes is run here, and what was read before it is forgotten.
     fn written(&mut self, text: &str, values: &[ValueRef<'_>]) -> Result<usize, StoreFault>
-        ensures { CountsStoreFaults self.old.faults self.new.faults result }
+        ensures faults { CountsStoreFaults self.old.faults self.new.faults result }
+        ensures forgets { OnOk result (self.new.latest ≡ None) }
+        ensures runs { IfOk result (λ count. HasCleanDisk (state S.Store self.new.connection)
+            → Executes text.now (bound values.now) (state S.Store self.old.connection)
+            (state S.Store self.new.connection) (Ok count)) }
     {
         self.latest = None;
         match self.connection.execute(text, values) {
@@ -208,7 +219,12 @@ impl<S: Alter + Drop> KeptShelf<S> {
         size: i64,
         row: &'x Row,
     ) -> Result<usize, StoreFault>
-        ensures { CountsStoreFaults self.old.faults self.new.faults result }
+        requires kind { kind ≡ pos row.now.kind }
+        requires size { size ≡ pos row.now.size }
+        ensures faults { CountsStoreFaults self.old.faults self.new.faults result }
+        ensures forgets { OnOk result (self.new.latest ≡ None) }
+        ensures runs { OnOk result (Executed PUT.now (put_values container.now name.now row.now)
+            (state S.Store self.old.connection) (state S.Store self.new.connection)) }
     {
         self.written(
             statements::PUT,
@@ -233,7 +249,10 @@ impl<S: Alter + Drop> KeptShelf<S> {
     ) -> Result<(), StoreFault>
         requires row { HasRow object.now }
         requires etag { etag ≡ etag_of object.now.content }
-        ensures { CountsStoreFaults self.old.faults self.new.faults result }
+        ensures faults { CountsStoreFaults self.old.faults self.new.faults result }
+        ensures forgets { OnOk result (self.new.latest ≡ None) }
+        ensures runs { OnOk result (Executed PUT.now (put_values container.now object.now.name (row_of object.now))
+            (state S.Store self.old.connection) (state S.Store self.new.connection)) }
     {
         let row = row_with_etag(self.alloc, object, etag)?;
         self.put_row(container, object.name.as_slice(), &row)
@@ -241,7 +260,10 @@ impl<S: Alter + Drop> KeptShelf<S> {
 
     /// A row whose kind or size no column takes is Failed.
     fn put_row(&mut self, container: &[u8], name: &[u8], row: &Row) -> Result<(), StoreFault>
-        ensures { CountsStoreFaults self.old.faults self.new.faults result }
+        ensures faults { CountsStoreFaults self.old.faults self.new.faults result }
+        ensures forgets { OnOk result (self.new.latest ≡ None) }
+        ensures runs { OnOk result (Executed PUT.now (put_values container.now name.now row.now)
+            (state S.Store self.old.connection) (state S.Store self.new.connection)) }
     {
         let Some(kind) = signed(row.kind) else {
             return Err(self.fail());
@@ -334,7 +356,9 @@ fn latest_in(
     Ok(Latest { container, object })
 }
 
-fn object_of(alloc: Global, name: &[u8], row: Row) -> Result<Stored, RowFault> {
+fn object_of(alloc: Global, name: &[u8], row: Row) -> Result<Stored, RowFault>
+    ensures { ReadsColumns name.now (record row { hash = [] }) result }
+{
     let Row {
         kind,
         content_type,
@@ -419,18 +443,28 @@ fn names_in(alloc: Global, rows: &[sqlite::Row]) -> Result<List<Bytes>, Error> {
 }
 
 /// The objects that rows tell, up to the first whose name hasn't the prefix.
-fn items_in(alloc: Global, prefix: &[u8], rows: &[sqlite::Row]) -> Result<List<NameItem>, Error> {
+#[tactic(auto, using(crate::proofs::ListedItems::one_more))]
+fn items_in(alloc: Global, prefix: &[u8], rows: &[sqlite::Row]) -> Result<List<NameItem>, Error>
+    ensures { IfOk result (All (HasPrefix prefix.now)) }
+{
     let mut items = List::new(alloc);
     for row in rows {
         let item = item_in(row)?;
         if !item.name.as_slice().starts_with(prefix) {
             return Ok(items);
         }
-        if items.push(item).is_err() {
-            return Err(NO_MEMORY);
-        }
+        add_item(&mut items, item)?;
     }
     Ok(items)
+}
+
+fn add_item(items: &mut List<NameItem>, item: NameItem) -> Result<(), Error>
+    ensures { OnOk result (items.new ≡ items.old ++ item ∷ []) }
+{
+    match items.push(item) {
+        Ok(()) => Ok(()),
+        Err(_) => Err(NO_MEMORY),
+    }
 }
 
 /// A text behind all texts of UTF-8 that begin with the prefix.
@@ -493,7 +527,9 @@ fn number_of_readers(readers: ReadList) -> i64 {
     }
 }
 
-fn signed(number: u64) -> Option<i64> {
+fn signed(number: u64) -> Option<i64>
+    ensures { IfSome result (λ same. same ≡ pos number) }
+{
     i64::try_from(number).ok()
 }
 
@@ -562,7 +598,12 @@ impl<S: Alter + Drop> Shelf for KeptShelf<S> {
         prefix: &[u8],
         marker: &[u8],
         limit: u32,
-    ) -> Result<List<NameItem>, StoreFault> {
+    ) -> Result<List<NameItem>, StoreFault>
+        ensures reads { ShelfReads (λ account items. items ≡ object_page limit prefix.now marker.now
+            (files account container.now)) (kept_model self.old.faults) result
+            (kept_model self.new.faults) }
+        ensures prefixed { IfOk result (All (HasPrefix prefix.now)) }
+    {
         let bound = bound_of(self.alloc, prefix)?;
         let rows = self.rows_of_names(container, prefix, marker, bound.as_slice(), limit)?;
         match items_in(self.alloc, prefix, rows.as_slice()) {
@@ -612,7 +653,15 @@ impl<S: Alter + Drop> Shelf for KeptShelf<S> {
         }
     }
 
-    fn put(&mut self, container: &[u8], object: Stored, etag: Bytes) -> Result<(), StoreFault> {
+    fn put(&mut self, container: &[u8], object: Stored, etag: Bytes) -> Result<(), StoreFault>
+        requires etag { etag ≡ etag_of object.content }
+        requires made { IsMadeObject object.name (object_of object) }
+        ensures writes { ShelfWrites (put_file container.now object.name (object_of object))
+            (kept_model self.old.faults) result (kept_model self.new.faults) }
+        ensures runs { OnOk result
+            (Executed PUT.now (put_values container.now object.name (row_of object))
+            (state S.Store self.old.connection) (state S.Store self.new.connection)) }
+    {
         self.put_object(container, &object, etag)
     }
 
