@@ -1,0 +1,36 @@
+use Rattle.std.proofs.Common.{sym, subst}
+use Rattle.swift_calls.specs.Step.{IsContainerName}
+use Rattle.upload_records.specs.Consistent.{IsBeside}
+use Rattle.sweep.proofs.Beside.{asks_err, asks_made, beside_is, folder_fits, records_cleared, segments_cleared}
+use Rattle.std.proofs.Common.{arith}
+use Rattle.sweep.proofs.Tally.{tallies_of}
+use Rattle.sweep.proofs.containers.sweep_missing.Goals as goal
+
+pub sweep_stray-requires-clause-folder : goal.sweep_stray-requires-clause-folder
+sweep_stray-requires-clause-folder g c = subst IsContainerName (sym c.requires.folder) (folder_fits c.args.bucket.now c.requires.bucket c.args.kind)
+
+pub sweep_stray-requires-clause-beside : goal.sweep_stray-requires-clause-beside
+sweep_stray-requires-clause-beside g c = subst (λ f. IsBeside f c.args.bucket.now) (sym c.requires.folder) (beside_is c.args.bucket.now c.requires.bucket c.args.kind)
+
+pub returns-in_err-files-clause-asks : goal.returns-in_err-files-clause-asks
+returns-in_err-files-clause-asks g c = asks_err (rw (c.requires.folder) at c.in_err-files.ensures.asks) _ c.from_residual.ensures.1
+
+pub returns-in-Records-clause-asks : goal.returns-in-Records-clause-asks
+returns-in-Records-clause-asks g c =
+    rw (c.in-Records.is) (asks_made _ (λ old new sound stray cleared. records_cleared c.args.bucket.now c.requires.bucket old new c.in_ok-files.files stray cleared) (rw (c.requires.folder, c.in-Records.is) at c.in_ok-files.ensures.asks))
+
+pub returns-in-Segments-clause-asks : goal.returns-in-Segments-clause-asks
+returns-in-Segments-clause-asks g c =
+    rw (c.in-Segments.is) (asks_made _ (λ old new sound stray cleared. segments_cleared c.args.bucket.now c.requires.bucket old new c.in_ok-files.files stray cleared) (rw (c.requires.folder, c.in-Segments.is) at c.in_ok-files.ensures.asks))
+
+pub returns-in-Records-clause-tallies : goal.returns-in-Records-clause-tallies
+returns-in-Records-clause-tallies g c =
+    let paid = c.in_ok-files.ensures.counted in
+    let fits = c.in_ok-files.ensures.fits in
+    tallies_of 0 c.in_ok-files.files 1 (omega (arith, paid)) (omega (arith, fits))
+
+pub returns-in-Segments-clause-tallies : goal.returns-in-Segments-clause-tallies
+returns-in-Segments-clause-tallies g c =
+    let paid = c.in_ok-files.ensures.counted in
+    let fits = c.in_ok-files.ensures.fits in
+    tallies_of c.in_ok-files.files 0 1 (omega (arith, paid)) (omega (arith, fits))

@@ -1,0 +1,360 @@
+//! One record beside a bucket: an old completion is forgotten, and any other gets its moment.
+ghost use Rattle.std.specs.Prelude.{◌≡◌, ◌≢◌, ◌<◌, ◌≤◌, ◌+◌, ℕ, List, [], ◌∷◌, length, true, false, IfErr, IfOk, Err, Some};
+ghost use Rattle.s3_names.specs.Bucket.{is_bucket};
+ghost use Rattle.s3_names.specs.Key.{is_key};
+ghost use Rattle.swift_calls.specs.History.{budget};
+ghost use Rattle.swift_calls.specs.Step.{Fit, IsContainerName};
+ghost use Rattle.swift_calls.specs.declared.calls.SwiftRequest.TheVariants.{PutObject};
+ghost use Rattle.upload_texts.specs.Records.{has_record_text, read_record};
+ghost use Rattle.upload_records.specs.Layout.{uploads_name};
+ghost use Rattle.account_calls.specs.Calls.{always, Asks};
+ghost use Rattle.account_calls.specs.Interpret.{Gives};
+ghost use Rattle.account_calls.specs.Listing.{TellsOf};
+ghost use Rattle.account_calls.specs.declared.fault.PlanFault.TheVariants as fault;
+ghost use Rattle.sweep.specs.Aging.{aging_due, dated, done_fate, fate, is_old, most_record_text, old_among, record_by, record_type, Forgetting, HasFile, HasRecord, NamesRecord, TellsAged, TellsGone, TellsRecord};
+ghost use Rattle.sweep.specs.Forgetting.{is_undated};
+ghost use Rattle.sweep.specs.Swept.{as_plan, plan_of};
+ghost use Rattle.sweep.specs.Walk.{ComesOf};
+
+use crate::account::SweepFault;
+use crate::files::ask_store;
+use account_calls::{PlanFault, interpret_file_delete, interpret_put_with_etag};
+use gate_base::{Bytes, Copying, List, Memory, drop};
+use s3_machine::body_etag;
+use std::alloc::Global;
+use swift_calls::{Swift, SwiftReply, SwiftRequest};
+use upload_texts::{Record, RecordFault};
+
+/// What was done with the records of completions.
+#[derive(Clone, Copy, Debug, PartialEq, Eq)]
+pub(crate) struct Aged {
+    /// Those that were forgotten.
+    pub(crate) forgotten: u64,
+    /// Those that got their moment.
+    pub(crate) migrated: u64,
+}
+
+/// What is done with a record.
+#[derive(Clone, Copy, Debug, PartialEq, Eq)]
+pub(crate) enum Fate {
+    /// It stays: it is that of an open upload, or has its moment and isn't old.
+    Left,
+    /// It goes: its completion is old.
+    Forgotten,
+    /// It is put anew with its moment.
+    Migrated,
+}
+
+/// The record of a name that was listed, by GET of its file (Object Storage API v1, "Get object content and metadata"). One that isn't
+/// there any more is inconsistent: nothing else writes the account meanwhile. At most one call.
+#[tactic(auto, using(account_calls::proofs::lemmas::Names::object_name))]
+fn get_aging_record<W: Swift>(
+    alloc: Global,
+    store: &mut W,
+    folder: &Bytes,
+    name: &Bytes,
+) -> Result<Record, PlanFault>
+    requires folder { IsContainerName folder.now }
+    requires name { is_key name.now ≡ true }
+    ensures counted { IfOk result (λ _. (W.history store.old).called < budget
+        × ((W.history store.new).called ≡ (W.history store.old).called + 1)) }
+    ensures near { (W.history store.new).called ≤ (W.history store.old).called + 1 }
+    ensures has { IfOk result (λ r. has_record_text r ≡ true) }
+    ensures asks { (bucket : List ℕ) → is_bucket bucket ≡ true → folder.now ≡ uploads_name bucket
+        → Asks (always 1) (W.history store.old) (W.history store.new)
+        (HasFile bucket name.now) (TellsOf (TellsRecord bucket name.now)) result }
+{
+    let container = folder.copy()?;
+    let name = name.copy()?;
+    let request = SwiftRequest::GetObject {
+        container,
+        name,
+        range: None,
+    };
+    let reply = ask_store(store, request)?;
+    aging_record_in_reply(alloc, &reply)
+}
+
+fn aging_record_in_reply(alloc: Global, reply: &SwiftReply) -> Result<Record, PlanFault>
+    ensures due { Gives result (aging_due reply.now) }
+    ensures own { result ≢ Err fault.Failed }
+    ensures has { IfOk result (λ r. has_record_text r ≡ true) }
+{
+    match reply {
+        SwiftReply::Bytes { body, .. } => aging_record_in_text(alloc, body.as_slice()),
+        _ => Err(PlanFault::Inconsistent),
+    }
+}
+
+fn aging_record_in_text(alloc: Global, text: &[u8]) -> Result<Record, PlanFault>
+    ensures due { Gives result (record_by (read_record text.now)) }
+    ensures own { result ≢ Err fault.Failed }
+    ensures has { IfOk result (λ r. has_record_text r ≡ true) }
+{
+    match Record::read(alloc, text) {
+        Ok(record) => Ok(record),
+        Err(RecordFault::Memory) => Err(PlanFault::Memory),
+        Err(RecordFault::NotARecord) => Err(PlanFault::Inconsistent),
+        Err(RecordFault::Version(_)) => Err(PlanFault::Inconsistent),
+    }
+}
+
+/// What is to be done with a record: a completion is old whose moment, or without one the start of its upload, is before this one.
+fn fate_of(told: &Record, before: u64) -> Fate
+    ensures { result ≡ fate before told.now }
+{
+    match told {
+        Record::Open { .. } => Fate::Left,
+        Record::Done {
+            started,
+            moment,
+            ..
+        } => fate_of_done(*started, *moment, before),
+    }
+}
+
+fn fate_of_done(started: u64, moment: Option<u64>, before: u64) -> Fate
+    ensures { result ≡ done_fate before started moment }
+{
+    match moment {
+        Some(moment) => {
+            if moment < before {
+                Fate::Forgotten
+            } else {
+                Fate::Left
+            }
+        }
+        None => {
+            if started < before {
+                Fate::Forgotten
+            } else {
+                Fate::Migrated
+            }
+        }
+    }
+}
+
+/// Forgets a completion that is old, by DELETE of its record (Object Storage API v1, "Delete object"). At most one call.
+#[tactic(auto, using(account_calls::proofs::lemmas::Names::object_name))]
+fn delete_old_record<W: Swift>(store: &mut W, folder: &Bytes, name: &Bytes) -> Result<(), PlanFault>
+    requires folder { IsContainerName folder.now }
+    requires name { is_key name.now ≡ true }
+    ensures counted { IfOk result (λ _. (W.history store.old).called < budget
+        × ((W.history store.new).called ≡ (W.history store.old).called + 1)) }
+    ensures near { (W.history store.new).called ≤ (W.history store.old).called + 1 }
+    ensures forgets { (before : ℕ) (bucket : List ℕ) (told : Record) → is_bucket bucket ≡ true
+        → folder.now ≡ uploads_name bucket → is_old before (Some told) ≡ true
+        → Forgetting (W.history store.old) (W.history store.new) (HasRecord bucket name.now told)
+        (old_among before bucket (name.now ∷ [])) (TellsGone before bucket name.now) result }
+{
+    let container = folder.copy()?;
+    let name = name.copy()?;
+    let reply = ask_store(store, SwiftRequest::DeleteObject { container, name })?;
+    interpret_file_delete(&reply)
+}
+
+/// The record with the moment of its completion.
+fn dated(told: Record) -> Record
+    ensures { result ≡ dated told }
+{
+    match told {
+        Record::Done {
+            key,
+            list,
+            etag,
+            started,
+            moment,
+        } => Record::Done {
+            key,
+            list,
+            etag,
+            started,
+            moment: Some(moment.unwrap_or(started)),
+        },
+        other => other,
+    }
+}
+
+/// The text of a record with the moment of its completion, of one that lacks it.
+fn dated_record_text(alloc: Global, told: Record) -> Result<Bytes, Memory>
+    requires has { has_record_text told ≡ true }
+    requires undated { is_undated (Some told) ≡ true }
+    ensures reads { IfOk result (λ text. read_record text ≡ Some (dated told)) }
+    ensures short { IfOk result (λ text. length text ≤ most_record_text) }
+{
+    let told = dated(told);
+    told.write(alloc)
+}
+
+/// The PUT of a record of this text.
+#[tactic(auto, using(account_calls::proofs::lemmas::Names::object_name))]
+fn dated_record_request(
+    alloc: Global,
+    folder: &Bytes,
+    name: &Bytes,
+    text: Bytes,
+) -> Result<SwiftRequest, Memory>
+    requires folder { IsContainerName folder.now }
+    requires name { is_key name.now ≡ true }
+    requires short { length text ≤ most_record_text }
+    ensures request { IfOk result (λ request. request ≡ PutObject folder.now name.now record_type [] text) }
+    ensures fits { IfOk result Fit }
+{
+    let container = folder.copy()?;
+    let name = name.copy()?;
+    let content_type = Bytes::from_slice(alloc, b"application/json")?;
+    Ok(SwiftRequest::PutObject {
+        container,
+        name,
+        content_type,
+        meta: List::new(alloc),
+        body: text,
+    })
+}
+
+/// Puts the record of a completion anew, with the start of its upload as its moment (Object Storage API v1, "Create or replace
+/// object"). At most one call.
+fn put_dated_record<W: Swift>(
+    alloc: Global,
+    store: &mut W,
+    folder: &Bytes,
+    name: &Bytes,
+    told: Record,
+) -> Result<(), PlanFault>
+    requires folder { IsContainerName folder.now }
+    requires name { is_key name.now ≡ true }
+    requires has { has_record_text told ≡ true }
+    requires undated { is_undated (Some told) ≡ true }
+    ensures counted { IfOk result (λ _. (W.history store.old).called < budget
+        × ((W.history store.new).called ≡ (W.history store.old).called + 1)) }
+    ensures near { (W.history store.new).called ≤ (W.history store.old).called + 1 }
+    ensures asks { (before : ℕ) (bucket : List ℕ) → is_bucket bucket ≡ true
+        → folder.now ≡ uploads_name bucket → is_old before (Some told) ≡ false
+        → Asks (always 1) (W.history store.old) (W.history store.new)
+        (HasRecord bucket name.now told) (TellsGone before bucket name.now) result }
+{
+    let text = dated_record_text(alloc, told)?;
+    let etag = body_etag(text.as_slice());
+    let request = dated_record_request(alloc, folder, name, text)?;
+    let reply = ask_store(store, request)?;
+    interpret_put_with_etag(&reply, &etag)
+}
+
+/// Does with a record what is to be done with it. At most one call.
+fn age_record<W: Swift>(
+    alloc: Global,
+    store: &mut W,
+    bucket: &Bytes,
+    folder: &Bytes,
+    name: &Bytes,
+    told: Record,
+    before: u64,
+) -> Result<Aged, PlanFault>
+    requires bucket { is_bucket bucket.now ≡ true }
+    requires folder { folder.now ≡ uploads_name bucket.now }
+    requires name { is_key name.now ≡ true }
+    requires has { has_record_text told ≡ true }
+    ensures counted { IfOk result (λ told. ((W.history store.new).called ≡ (W.history store.old).called + (told.forgotten + told.migrated))
+        × ((W.history store.old).called ≤ budget → (W.history store.new).called ≤ budget)) }
+    ensures near { (W.history store.new).called ≤ (W.history store.old).called + 1 }
+    ensures forgets { Forgetting (W.history store.old) (W.history store.new)
+        (HasRecord bucket.now name.now told) (old_among before bucket.now (name.now ∷ []))
+        (TellsAged before bucket.now (name.now ∷ [])) result }
+{
+    match fate_of(&told, before) {
+        Fate::Left => {
+            drop(told);
+            Ok(Aged {
+                forgotten: 0,
+                migrated: 0,
+            })
+        }
+        Fate::Forgotten => {
+            drop(told);
+            delete_old_record(store, folder, name)?;
+            Ok(Aged {
+                forgotten: 1,
+                migrated: 0,
+            })
+        }
+        Fate::Migrated => {
+            put_dated_record(alloc, store, folder, name, told)?;
+            Ok(Aged {
+                forgotten: 0,
+                migrated: 1,
+            })
+        }
+    }
+}
+
+/// Does with the record of a name that was listed what is to be done with it. It is read once. At most two calls.
+fn forget_record<W: Swift>(
+    alloc: Global,
+    store: &mut W,
+    bucket: &Bytes,
+    folder: &Bytes,
+    name: &Bytes,
+    before: u64,
+) -> Result<Aged, PlanFault>
+    requires bucket { is_bucket bucket.now ≡ true }
+    requires folder { folder.now ≡ uploads_name bucket.now }
+    requires name { is_key name.now ≡ true }
+    ensures counted { IfOk result (λ told. ((W.history store.old).called + (told.forgotten + told.migrated) < (W.history store.new).called)
+        × ((W.history store.new).called ≤ budget)) }
+    ensures near { (W.history store.new).called ≤ (W.history store.old).called + 2 }
+    ensures forgets { Forgetting (W.history store.old) (W.history store.new) (HasFile bucket.now name.now)
+        (old_among before bucket.now (name.now ∷ [])) (TellsAged before bucket.now (name.now ∷ [])) result }
+{
+    let told = get_aging_record(alloc, store, folder, name)?;
+    age_record(alloc, store, bucket, folder, name, told, before)
+}
+
+/// An inconsistent store, by the container and the object that it was asked for.
+fn inconsistent_at(container: &Bytes, name: &Bytes) -> Result<SweepFault, Memory>
+    ensures comes { IfOk result (λ told. plan_of told ≡ fault.Inconsistent) }
+    ensures names { IfOk result (NamesRecord container.now name.now) }
+{
+    let container = container.copy()?;
+    let name = name.copy()?;
+    Ok(SweepFault::Inconsistent { container, name })
+}
+
+/// A fault over the record of a name, which it names where the store was inconsistent.
+fn record_fault(fault: PlanFault, container: &Bytes, name: &Bytes) -> SweepFault
+    ensures comes { ComesOf fault result }
+    ensures names { NamesRecord container.now name.now result }
+{
+    match fault {
+        PlanFault::Failed => SweepFault::Failed,
+        PlanFault::Memory => SweepFault::Memory,
+        PlanFault::Inconsistent => match inconsistent_at(container, name) {
+            Ok(told) => told,
+            Err(_) => SweepFault::Memory,
+        },
+    }
+}
+
+/// The same as [`forget_record`], with a fault that names the record.
+pub(crate) fn forget_named_record<W: Swift>(
+    alloc: Global,
+    store: &mut W,
+    bucket: &Bytes,
+    folder: &Bytes,
+    name: &Bytes,
+    before: u64,
+) -> Result<Aged, SweepFault>
+    requires bucket { is_bucket bucket.now ≡ true }
+    requires folder { folder.now ≡ uploads_name bucket.now }
+    requires name { is_key name.now ≡ true }
+    ensures counted { IfOk result (λ told. ((W.history store.old).called + (told.forgotten + told.migrated) < (W.history store.new).called)
+        × ((W.history store.new).called ≤ budget)) }
+    ensures near { (W.history store.new).called ≤ (W.history store.old).called + 2 }
+    ensures names { IfErr result (NamesRecord folder.now name.now) }
+    ensures forgets { Forgetting (W.history store.old) (W.history store.new) (HasFile bucket.now name.now)
+        (old_among before bucket.now (name.now ∷ [])) (TellsAged before bucket.now (name.now ∷ [])) (as_plan result) }
+{
+    match forget_record(alloc, store, bucket, folder, name, before) {
+        Ok(told) => Ok(told),
+        Err(fault) => Err(record_fault(fault, folder, name)),
+    }
+}

@@ -1,0 +1,23 @@
+//! Sweeping and surveying: what is left over on an account is removed, or counted.
+#![tactic(auto)]
+
+mod account;
+mod containers;
+mod counting;
+mod file_counts;
+mod files;
+mod forget;
+mod forget_walk;
+mod gather;
+mod kept;
+mod laws;
+mod sealed;
+mod segments;
+mod shares;
+mod stray;
+mod used;
+mod walk;
+
+pub use account::{SweepFault, Swept, sweep, sweep_before};
+pub use counting::{Surveyed, survey};
+pub use laws::{law_kept_dated, law_kept_forgotten, law_side_gone, law_unused_gone};

@@ -1,0 +1,215 @@
+//! What one container has of a survey, by its name.
+ghost use Rattle.std.specs.Prelude.{◌≡◌, true, false, IfOk, IfSome};
+ghost use Rattle.s3_names.specs.Bucket.{is_bucket};
+ghost use Rattle.swift_calls.specs.History.{present};
+ghost use Rattle.upload_texts.specs.Sealed.{has_sealed_text};
+ghost use Rattle.upload_records.specs.Layout.{segments_name};
+ghost use Rattle.account_calls.specs.Calls.{by_account, Any, Asks};
+ghost use Rattle.account_calls.specs.Listing.{TellsOf};
+ghost use Rattle.sweep.specs.Containers.{bucket_beside};
+ghost use Rattle.sweep.specs.Gathering.{InBucket};
+ghost use Rattle.sweep.specs.Sides.{without_last};
+ghost use Rattle.sweep.specs.Surveying.{bucket_calls, orphans_calls, page_calls, records_calls, share_calls, stray_calls, HasName, HasOpened, TellsBucketShare, TellsObjects, TellsOrphans, TellsRecords, TellsShare, TellsStray, TellsStrayShare};
+ghost use Rattle.sweep.specs.declared.containers.Kind.TheVariants.{Segments};
+
+use crate::counting::Surveyed;
+use crate::file_counts::{FileCount, tally_files};
+use crate::gather::{Source, gather};
+use crate::kept::Kept;
+use crate::stray::is_there;
+use crate::used::{Used, add_sealed};
+use account_calls::PlanFault;
+use gate_base::{Bytes, Memory};
+use name_table::Table;
+use s3_names::is_bucket;
+use std::alloc::Global;
+use swift_calls::Swift;
+use upload_records::{segments_container, uploads_container};
+use upload_texts::Sealed;
+
+/// How many objects a bucket has. At most as many calls as there are pages of them.
+fn count_objects<W: Swift>(alloc: Global, store: &mut W, bucket: &Bytes) -> Result<u64, PlanFault>
+    requires { is_bucket bucket.now ≡ true }
+    ensures asks { Asks (by_account (page_calls (present (W.history store.old)) bucket.now))
+        (W.history store.old) (W.history store.new) Any (TellsOf (TellsObjects bucket.now)) result }
+{
+    let used = Used::nothing(alloc);
+    let tally = tally_files(alloc, store, bucket, &used)?;
+    Ok(tally.unused)
+}
+
+/// The ids of the open uploads of a bucket, and how many uploads are open and how many completions are kept. Each record is read once.
+fn survey_records<W: Swift>(
+    alloc: Global,
+    store: &mut W,
+    bucket: &Bytes,
+) -> Result<(Table<bool>, FileCount), PlanFault>
+    requires { is_bucket bucket.now ≡ true }
+    ensures asks { Asks (by_account (records_calls (present (W.history store.old)) bucket.now))
+        (W.history store.old) (W.history store.new) (InBucket bucket.now)
+        (TellsOf (TellsRecords bucket.now)) result }
+{
+    let folder = uploads_container(alloc, bucket.as_slice())?;
+    let opened = gather(alloc, store, bucket, &folder, Source::Records)?;
+    let used = Used::named(alloc, opened);
+    let tally = tally_files(alloc, store, &folder, &used)?;
+    Ok((used.kept.listed, tally))
+}
+
+/// How many orphans stand beside a bucket that is there, by the ids of its open uploads. The list of each object is read once.
+fn count_orphans<W: Swift>(
+    alloc: Global,
+    store: &mut W,
+    sealed: &Option<Sealed>,
+    bucket: &Bytes,
+    opened: Table<bool>,
+) -> Result<u64, PlanFault>
+    requires bucket { is_bucket bucket.now ≡ true }
+    requires sealed { IfSome sealed.now (λ s. has_sealed_text s ≡ true) }
+    ensures asks { Asks (by_account (orphans_calls (present (W.history store.old)) bucket.now))
+        (W.history store.old) (W.history store.new) (HasOpened sealed.now bucket.now opened)
+        (TellsOf (TellsOrphans bucket.now)) result }
+{
+    let folder = segments_container(alloc, bucket.as_slice())?;
+    let mut listed = gather(alloc, store, bucket, bucket, Source::Objects)?;
+    let id = add_sealed(alloc, sealed, bucket, &mut listed)?;
+    let used = Used {
+        kept: Kept { listed, opened },
+        sealed: id,
+    };
+    let tally = tally_files(alloc, store, &folder, &used)?;
+    Ok(tally.unused)
+}
+
+/// What a bucket that is there has of a survey, with what stands beside it.
+fn survey_bucket<W: Swift>(
+    alloc: Global,
+    store: &mut W,
+    sealed: &Option<Sealed>,
+    bucket: &Bytes,
+) -> Result<Surveyed, PlanFault>
+    requires bucket { is_bucket bucket.now ≡ true }
+    requires sealed { IfSome sealed.now (λ s. has_sealed_text s ≡ true) }
+    ensures asks { Asks (by_account (bucket_calls (present (W.history store.old)) bucket.now))
+        (W.history store.old) (W.history store.new) (HasName sealed.now bucket.now)
+        (TellsOf (TellsBucketShare bucket.now)) result }
+{
+    let objects = count_objects(alloc, store, bucket)?;
+    let (opened, records) = survey_records(alloc, store, bucket)?;
+    let orphans = count_orphans(alloc, store, sealed, bucket, opened)?;
+    Ok(Surveyed {
+        buckets: 1,
+        objects,
+        uploads: records.used,
+        kept: records.unused,
+        orphans,
+        sealed: false,
+    })
+}
+
+/// How many segments stand beside a bucket that is missing: all of them are orphans. None are counted where it is there, of which
+/// HEAD tells (Object Storage API v1, "Show container metadata").
+fn count_strays<W: Swift>(
+    alloc: Global,
+    store: &mut W,
+    bucket: &Bytes,
+    folder: &Bytes,
+) -> Result<u64, PlanFault>
+    requires bucket { is_bucket bucket.now ≡ true }
+    requires folder { folder.now ≡ segments_name bucket.now }
+    ensures asks { Asks (by_account (stray_calls (present (W.history store.old)) bucket.now))
+        (W.history store.old) (W.history store.new) Any (TellsOf (TellsStray bucket.now)) result }
+{
+    if is_there(store, bucket)? {
+        return Ok(0);
+    }
+    let used = Used::nothing(alloc);
+    let tally = tally_files(alloc, store, folder, &used)?;
+    Ok(tally.unused)
+}
+
+/// The bucket beside which a container of this name stands, if it is one of segments.
+fn bucket_of_segments(alloc: Global, name: &Bytes) -> Result<Option<Bytes>, Memory>
+    ensures { IfOk result (λ told. told ≡ bucket_beside Segments name.now) }
+{
+    let bucket = without_suffix(name.as_slice());
+    if !is_bucket(bucket) {
+        return Ok(None);
+    }
+    let folder = segments_container(alloc, bucket)?;
+    if name.as_slice() != folder.as_slice() {
+        return Ok(None);
+    }
+    let told = Bytes::from_slice(alloc, bucket)?;
+    Ok(Some(told))
+}
+
+/// A name without as many bytes as `+segments` has.
+fn without_suffix(name: &[u8]) -> &[u8]
+    ensures { result.now ≡ without_last 9 name.now }
+{
+    if name.len() < 9 {
+        return &name[..0];
+    }
+    &name[..name.len() - 9]
+}
+
+/// What segments have of a survey whose bucket may be missing.
+fn survey_strays<W: Swift>(
+    alloc: Global,
+    store: &mut W,
+    bucket: &Bytes,
+    folder: &Bytes,
+) -> Result<Surveyed, PlanFault>
+    requires bucket { is_bucket bucket.now ≡ true }
+    requires folder { folder.now ≡ segments_name bucket.now }
+    ensures asks { Asks (by_account (stray_calls (present (W.history store.old)) bucket.now))
+        (W.history store.old) (W.history store.new) Any (TellsOf (TellsStrayShare bucket.now)) result }
+{
+    let orphans = count_strays(alloc, store, bucket, folder)?;
+    Ok(Surveyed {
+        buckets: 0,
+        objects: 0,
+        uploads: 0,
+        kept: 0,
+        orphans,
+        sealed: false,
+    })
+}
+
+/// What a container has of a survey that stands under a name of no bucket.
+fn survey_side<W: Swift>(alloc: Global, store: &mut W, name: &Bytes) -> Result<Surveyed, PlanFault>
+    requires { is_bucket name.now ≡ false }
+    ensures asks { Asks (by_account (share_calls (present (W.history store.old)) name.now))
+        (W.history store.old) (W.history store.new) Any (TellsOf (TellsShare name.now)) result }
+{
+    match bucket_of_segments(alloc, name)? {
+        Some(bucket) => survey_strays(alloc, store, &bucket, name),
+        None => Ok(Surveyed {
+            buckets: 0,
+            objects: 0,
+            uploads: 0,
+            kept: 0,
+            orphans: 0,
+            sealed: false,
+        }),
+    }
+}
+
+/// What a container has of a survey, by its name.
+pub(crate) fn survey_name<W: Swift>(
+    alloc: Global,
+    store: &mut W,
+    sealed: &Option<Sealed>,
+    name: &Bytes,
+) -> Result<Surveyed, PlanFault>
+    requires { IfSome sealed.now (λ s. has_sealed_text s ≡ true) }
+    ensures asks { Asks (by_account (share_calls (present (W.history store.old)) name.now))
+        (W.history store.old) (W.history store.new) (HasName sealed.now name.now)
+        (TellsOf (TellsShare name.now)) result }
+{
+    if is_bucket(name.as_slice()) {
+        return survey_bucket(alloc, store, sealed, name);
+    }
+    survey_side(alloc, store, name)
+}
