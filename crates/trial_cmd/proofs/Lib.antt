@@ -1,0 +1,5 @@
+pub mod Causes
+pub mod Keys
+pub mod Lines
+pub mod Moments
+pub mod Outputs

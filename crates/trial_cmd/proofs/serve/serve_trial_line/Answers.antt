@@ -1,0 +1,30 @@
+use Rattle.std.proofs.Common.{refl, sym, ap, ◌∙◌}
+use Rattle.std.specs.Prelude.{◌-◌, ◌^◌, min, length}
+use Rattle.gate_base.specs.ListTold.{draws_of, moments_of, source_of}
+use Rattle.gate_base.specs.MemLine.{model_of}
+use Rattle.account_calls.specs.declared.state.Known.TheVariants.{Unsure}
+use Rattle.gateway.specs.World.{World, IsObservable, world}
+use Rattle.sha2.specs.Sha256.{sha256}
+use Rattle.trial_cmd.specs.Served.{output_of}
+use Rattle.trial_cmd.proofs.Causes.{failed_rose, never_found}
+use Rattle.trial_cmd.proofs.serve.serve_trial_line.Goals as goal
+
+pub returns : goal.returns
+returns g c =
+    let served = c.serve_connection-ended.ensures in
+    let old : World = world (model_of c.args.line) (g.W.Swift.history c.args.store.now) Unsure (source_of (moments_of c.args.clock)) (source_of (draws_of c.args.draws)) in
+    let new : World = world (model_of c.serve_connection-ended.new.line) (g.W.Swift.history c.serve_connection-ended.new.store) c.serve_connection-ended.new.known
+    (source_of (moments_of c.serve_connection-ended.new.clock)) (source_of (draws_of c.serve_connection-ended.new.draws)) in
+    let told : IsObservable old = record { line = refl; clock = refl; draws = refl } in
+    record {
+      line' = new.line;
+      clock' = new.clock;
+      draws' = new.draws;
+      known = new.known;
+      fails = served.line;
+      serves = served.serves;
+      size = c.size_of_pieces.ensures ∙ ap (λ pieces. min (length (output_of pieces)) (2 ^ 64 - 1)) c.pieces.ensures;
+      failed = failed_rose c.args.service.now c.serve_connection-ended.result old new c.law_failed_store_rose.ensures served.serves told;
+      consistent = never_found c.args.service.now c.serve_connection-ended.result old new c.law_found_consistent.ensures served.serves told refl;
+      hash = c.hash_of_pieces.ensures ∙ ap (λ pieces. sha256 (output_of pieces)) c.pieces-2.ensures;
+    }
