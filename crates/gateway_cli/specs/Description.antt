@@ -51,11 +51,34 @@ presign_app = with_rule signer_app expires_rule
 abbrev pub recover_app : App
 recover_app = new_app (codes "recover")
 
+-- the option `--forget-before SECONDS`
+abbrev pub forget_before_rule : Rule
+forget_before_rule = record (new_rule (codes "forget-before")) { long = Some (codes "forget-before"); action = Some Set }
+
+-- `sweep`, with it
+abbrev pub sweep_app : App
+sweep_app = with_rule (new_app (codes "sweep")) forget_before_rule
+
+-- `check`, without an option
+abbrev pub check_app : App
+check_app = new_app (codes "check")
+
+-- the options `--number N` and `--requests M`, which must be given
+abbrev pub number_rule : Rule
+number_rule = record (new_rule (codes "number")) { long = Some (codes "number"); action = Some Set; required = true }
+
+abbrev pub requests_rule : Rule
+requests_rule = record (new_rule (codes "requests")) { long = Some (codes "requests"); action = Some Set; required = true }
+
+-- `trial`, with these
+abbrev pub trial_app : App
+trial_app = with_rule (with_rule (new_app (codes "trial")) number_rule) requests_rule
+
 -- the words begin behind the program's name, and one of the commands must be named
 abbrev pub with_settings : Shape → Shape
 with_settings s = record s { no_binary_name = true; subcommand_required = true }
 
 unfoldable pub gate_app : App
 gate_app =
-    with_subcommand (with_subcommand (with_subcommand (with_subcommand (with_subcommand (on_top with_settings (new_app (codes "s3gate")))
-    session_app.top) serve_app.top) sign_app.top) presign_app.top) recover_app.top
+    with_subcommand (with_subcommand (with_subcommand (with_subcommand (with_subcommand (with_subcommand (with_subcommand (with_subcommand (on_top with_settings (new_app (codes "s3gate")))
+    session_app.top) serve_app.top) sign_app.top) presign_app.top) recover_app.top) sweep_app.top) check_app.top) trial_app.top

@@ -6,7 +6,8 @@ use std::alloc::AllocError;
 /// What the words ask for. `Session`: to serve the connections of the line as this region, where each part of a completed
 /// upload but the last has at least so many bytes. `Serve`: the same, but at most so many connections. `Sign`: to sign a
 /// request with the key of this id, for this region. `Presign`: to make a URL of it that holds for so many seconds.
-/// `Recover`: to settle the store.
+/// `Recover`: to settle the store. `Sweep`: to remove what is left over on it, and to forget the completions from before a moment.
+/// `Check`: to count what stands on it. `Trial`: to answer so many requests that this number determines.
 #[derive(Debug, Drop)]
 pub enum Command {
     Session {
@@ -28,6 +29,14 @@ pub enum Command {
         expires: u64,
     },
     Recover,
+    Sweep {
+        before: u64,
+    },
+    Check,
+    Trial {
+        number: u64,
+        requests: u64,
+    },
 }
 
 impl Copying for Command {
@@ -60,6 +69,12 @@ impl Copying for Command {
                 expires: *expires,
             }),
             Command::Recover => Ok(Command::Recover),
+            Command::Sweep { before } => Ok(Command::Sweep { before: *before }),
+            Command::Check => Ok(Command::Check),
+            Command::Trial { number, requests } => Ok(Command::Trial {
+                number: *number,
+                requests: *requests,
+            }),
         }
     }
 }

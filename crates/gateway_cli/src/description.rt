@@ -1,7 +1,7 @@
 ghost use Rattle.std.specs.Prelude.{◌≡◌, false, IfOk};
 ghost use Rattle.clap.specs.Words.{app_of, with_subcommand};
 ghost use Rattle.clap.specs.declared.builder.command.Command.TheViews.{out-Command as fields_of};
-ghost use Rattle.gateway_cli.specs.Description.{gate_app, presign_app, recover_app, serve_app, serving_app, session_app, sign_app, signer_app};
+ghost use Rattle.gateway_cli.specs.Description.{check_app, gate_app, presign_app, recover_app, sweep_app, serve_app, serving_app, session_app, sign_app, signer_app, trial_app};
 
 use clap::{Arg, ArgAction, Command};
 use std::alloc::{AllocError, Global};
@@ -17,7 +17,10 @@ pub(crate) fn gate<'a>(alloc: Global) -> Result<Command<'a>, AllocError>
     let two = with_serve_description(alloc, one)?;
     let three = with_sign_description(alloc, two)?;
     let four = with_presign_description(alloc, three)?;
-    with_recover_description(alloc, four)
+    let five = with_recover_description(alloc, four)?;
+    let six = with_sweep_description(alloc, five)?;
+    let seven = with_check_description(alloc, six)?;
+    with_trial_description(alloc, seven)
 }
 
 fn with_session_description<'a>(alloc: Global, gate: Command<'a>) -> Result<Command<'a>, AllocError>
@@ -57,6 +60,39 @@ fn with_recover_description<'a>(alloc: Global, gate: Command<'a>) -> Result<Comm
         (λ command. app_of command ≡ with_subcommand (app_of gate.entry) recover_app.top) }
 {
     gate.subcommand(Command::new(alloc, "recover"))
+}
+
+fn with_sweep_description<'a>(alloc: Global, gate: Command<'a>) -> Result<Command<'a>, AllocError>
+    ensures { IfOk result
+        (λ command. app_of command ≡ with_subcommand (app_of gate.entry) sweep_app.top) }
+{
+    let sweep = sweep_description(alloc)?;
+    gate.subcommand(sweep)
+}
+
+fn sweep_description<'a>(alloc: Global) -> Result<Command<'a>, AllocError>
+    ensures app { IfOk result (λ command. app_of command ≡ sweep_app) }
+    ensures local { IfOk result (λ command. (fields_of command).has_globals ≡ false) }
+{
+    let before = Arg::new(alloc, "forget-before")
+        .long("forget-before")
+        .action(ArgAction::Set);
+    Command::new(alloc, "sweep").arg(before)
+}
+
+fn with_check_description<'a>(alloc: Global, gate: Command<'a>) -> Result<Command<'a>, AllocError>
+    ensures { IfOk result
+        (λ command. app_of command ≡ with_subcommand (app_of gate.entry) check_app.top) }
+{
+    gate.subcommand(Command::new(alloc, "check"))
+}
+
+fn with_trial_description<'a>(alloc: Global, gate: Command<'a>) -> Result<Command<'a>, AllocError>
+    ensures { IfOk result
+        (λ command. app_of command ≡ with_subcommand (app_of gate.entry) trial_app.top) }
+{
+    let trial = trial_description(alloc)?;
+    gate.subcommand(trial)
 }
 
 /// A command of that name that serves, with the options of what its service is set to.
@@ -107,6 +143,21 @@ fn presign_description<'a>(alloc: Global) -> Result<Command<'a>, AllocError>
         .required(true);
     let signer = signer_description(alloc)?;
     signer.arg(expires)
+}
+
+fn trial_description<'a>(alloc: Global) -> Result<Command<'a>, AllocError>
+    ensures app { IfOk result (λ command. app_of command ≡ trial_app) }
+    ensures local { IfOk result (λ command. (fields_of command).has_globals ≡ false) }
+{
+    let number = Arg::new(alloc, "number")
+        .long("number")
+        .action(ArgAction::Set)
+        .required(true);
+    let requests = Arg::new(alloc, "requests")
+        .long("requests")
+        .action(ArgAction::Set)
+        .required(true);
+    Command::new(alloc, "trial").arg(number)?.arg(requests)
 }
 
 fn signer_description<'a>(alloc: Global) -> Result<Command<'a>, AllocError>

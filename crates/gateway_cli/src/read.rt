@@ -1,13 +1,14 @@
-ghost use Rattle.std.specs.Prelude.{◌≡◌, IfOk, map, option_and_then, option_map, string_bytes};
+ghost use Rattle.gate_base.specs.Told.{moment_limit};
+ghost use Rattle.std.specs.Prelude.{◌≡◌, ◌<◌, IfOk, IfSome, map, option_and_then, option_map, string_bytes, ◌≤◌};
 ghost use Rattle.clap.specs.Words.{found_of, kind_of, rows_of, subcommand_rows_of};
-ghost use Rattle.gateway_cli.specs.Words.{FaultOf, IsProper, Parses, ReadsWords, command_in, command_of, command_with, count_of, least_part_option, name_of, presign_command_by_options, region_option, serve_command_by_options, session_command_by_options, sign_command_by_options, span_of};
+ghost use Rattle.gateway_cli.specs.Words.{FaultOf, IsProper, Parses, ReadsWords, command_in, command_of, command_with, count_of, least_part_option, name_of, presign_command_by_options, region_option, serve_command_by_options, moment_of, session_command_by_options, sign_command_by_options, span_of, sweep_command_by_options, trial_command_by_options, trial_number_of};
 
 use crate::description::gate;
 use crate::text::{is_key_option, is_region, number_in};
 use crate::{Command, WordsFault};
 use clap::error::ErrorKind;
 use clap::{ArgMatches, Error};
-use gate_base::Bytes;
+use gate_base::{Bytes, MOMENT_LIMIT};
 use std::alloc::Global;
 
 /// The region where the words give none.
@@ -28,6 +29,11 @@ const MOST_LEAST_PART: u64 = 16_777_216;
 /// The most seconds that a URL may hold for: a week.
 const LONGEST_SPAN: u64 = 604_800;
 
+/// The greatest number of a trial, and the most requests that it may have.
+const MOST_TRIAL_NUMBER: u64 = 18_446_744_073_709_551_615;
+
+const MOST_TRIAL_REQUESTS: u64 = 100_000;
+
 /// The commands, by name alone.
 #[derive(Clone, Copy, Debug, PartialEq, Eq)]
 enum CommandName {
@@ -36,12 +42,16 @@ enum CommandName {
     Sign,
     Presign,
     Recover,
+    Sweep,
+    Check,
+    Trial,
 }
 
 /// The command that the words name. The words are those behind the program's name. They are refused where `clap`
 /// refuses them or answers with a help text, where a region isn't 1 to 32 bytes of `a-z 0-9 -`, where a number of
 /// connections isn't 1 to 1000000000 in at most 20 digits, where a least part isn't 1 to 16777216 or a number of seconds
-/// 1 to 604800 in as many, and where the id of a key isn't 1 to 128 letters and digits.
+/// 1 to 604800 in as many, where a moment isn't 0 to 253402300799 in as many, where the id of a key isn't 1 to 128 letters and digits, and
+/// where a number of a trial isn't 0 to 18446744073709551615, or a number of its requests 0 to 100000, in as many digits.
 pub fn read_words(alloc: Global, words: &[String]) -> Result<Command, WordsFault>
     ensures reads { ReadsWords (command_of words.now) result }
     ensures proper { IfOk result IsProper }
@@ -103,6 +113,12 @@ fn name_of(text: &str) -> Option<CommandName>
         Some(CommandName::Presign)
     } else if text == "recover" {
         Some(CommandName::Recover)
+    } else if text == "sweep" {
+        Some(CommandName::Sweep)
+    } else if text == "check" {
+        Some(CommandName::Check)
+    } else if text == "trial" {
+        Some(CommandName::Trial)
     } else {
         None
     }
@@ -134,6 +150,11 @@ fn command_with(alloc: Global, name: CommandName, found: &ArgMatches) -> Result<
             found.get_str("expires"),
         ),
         CommandName::Recover => Ok(Command::Recover),
+        CommandName::Sweep => sweep_command_by_options(found.get_str("forget-before")),
+        CommandName::Check => Ok(Command::Check),
+        CommandName::Trial => {
+            trial_command_by_options(found.get_str("number"), found.get_str("requests"))
+        }
     }
 }
 
@@ -239,6 +260,54 @@ fn presign_command_by_options(
     })
 }
 
+fn sweep_command_by_options(before: Option<&str>) -> Result<Command, WordsFault>
+    ensures reads { ReadsWords (sweep_command_by_options (option_map (λ text. text.now) before.entry)) result }
+    ensures proper { IfOk result IsProper }
+{
+    let Some(before) = moment_of(before) else {
+        return Err(WordsFault::Refused);
+    };
+    Ok(Command::Sweep { before })
+}
+
+fn moment_of(given: Option<&str>) -> Option<u64>
+    ensures reads { result ≡ moment_of (option_map (λ text. text.now) given.entry) }
+    ensures dated { IfSome result (λ moment. moment < moment_limit) }
+{
+    match given {
+        Some(text) => number_in(text, 0, MOMENT_LIMIT - 1),
+        None => Some(0),
+    }
+}
+
+fn trial_command_by_options(
+    number: Option<&str>,
+    requests: Option<&str>,
+) -> Result<Command, WordsFault>
+    ensures reads { ReadsWords (trial_command_by_options
+        (option_map (λ text. text.now) number.entry)
+        (option_map (λ text. text.now) requests.entry)) result }
+    ensures proper { IfOk result IsProper }
+{
+    let Some(number) = trial_number_of(number, MOST_TRIAL_NUMBER) else {
+        return Err(WordsFault::Refused);
+    };
+    let Some(requests) = trial_number_of(requests, MOST_TRIAL_REQUESTS) else {
+        return Err(WordsFault::Refused);
+    };
+    Ok(Command::Trial { number, requests })
+}
+
+fn trial_number_of(given: Option<&str>, most: u64) -> Option<u64>
+    ensures value { result ≡ trial_number_of most (option_map (λ text. text.now) given.entry) }
+    ensures within { IfSome result (λ number. number ≤ most) }
+{
+    match given {
+        Some(text) => number_in(text, 0, most),
+        None => None,
+    }
+}
+
 fn region_option<'a>(given: Option<&'a str>) -> &'a [u8]
     ensures { result.now ≡ region_option (option_map (λ text. text.now) given.entry) }
 {
@@ -252,7 +321,7 @@ fn count_of(given: Option<&str>) -> Option<u64>
     ensures { result ≡ count_of (option_map (λ text. text.now) given.entry) }
 {
     match given {
-        Some(text) => number_in(text, MOST_CONNECTIONS),
+        Some(text) => number_in(text, 1, MOST_CONNECTIONS),
         None => Some(USUAL_CONNECTIONS),
     }
 }
@@ -261,7 +330,7 @@ fn least_part_option(given: Option<&str>) -> Option<u64>
     ensures { result ≡ least_part_option (option_map (λ text. text.now) given.entry) }
 {
     match given {
-        Some(text) => number_in(text, MOST_LEAST_PART),
+        Some(text) => number_in(text, 1, MOST_LEAST_PART),
         None => Some(USUAL_LEAST_PART),
     }
 }
@@ -270,7 +339,7 @@ fn span_of(given: Option<&str>) -> Option<u64>
     ensures { result ≡ span_of (option_map (λ text. text.now) given.entry) }
 {
     match given {
-        Some(text) => number_in(text, LONGEST_SPAN),
+        Some(text) => number_in(text, 1, LONGEST_SPAN),
         None => None,
     }
 }

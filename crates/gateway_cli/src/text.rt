@@ -50,21 +50,21 @@ fn is_key_option_byte(byte: u8) -> bool
     byte.is_ascii_digit() || byte.is_ascii_uppercase() || byte.is_ascii_lowercase()
 }
 
-/// The number that the text writes, where it is 1 to `most`.
-pub(crate) fn number_in(text: &str, most: u64) -> Option<u64>
-    ensures { result ≡ number_in most text.now }
+/// The number that the text writes, where it is `least` to `most`.
+pub(crate) fn number_in(text: &str, least: u64, most: u64) -> Option<u64>
+    ensures { result ≡ number_in least most text.now }
 {
     if !is_number(text.as_bytes(), LONGEST_NUMBER) {
         return None;
     }
     match text.parse::<u64>() {
-        Ok(number) if is_within(number, most) => Some(number),
+        Ok(number) if is_within(number, least, most) => Some(number),
         _ => None,
     }
 }
 
-fn is_within(number: u64, most: u64) -> bool
-    ensures { result ≡ is_within most number }
+fn is_within(number: u64, least: u64, most: u64) -> bool
+    ensures { result ≡ is_within least most number }
 {
-    1 <= number && number <= most
+    least <= number && number <= most
 }

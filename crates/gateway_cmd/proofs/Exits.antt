@@ -7,7 +7,7 @@ use Rattle.gateway_cmd.specs.declared.status.Status.{Status}
 use Rattle.gateway_cmd.specs.declared.status.Status.TheVariants.{Done, Usage, Line, Store, Request, Memory}
 use Rattle.gateway_cmd.specs.Report.{IsStatus, Says, Fits, Admits, kind_of, code_of, is_plain, is_failed_run, is_done, is_done_status}
 use Rattle.gateway_cmd.specs.Session.{LineServed}
-use Rattle.gateway_cmd.specs.Tasks.{Task, nothing, to_serve, to_sign, to_presign, to_recover, Serving, is_serving, is_signing, is_upkeep, uses_line, tells}
+use Rattle.gateway_cmd.specs.Tasks.{Task, nothing, to_serve, to_sign, to_presign, to_recover, to_sweep, to_check, Serving, is_serving, is_signing, uses_line, tells, to_try, ends_by_store}
 
 -- the exit status of a run that ended so; 6 is that of one whose report failed
 abbrev pub Exits : RunOutcome → ℕ → Type 0
@@ -58,7 +58,7 @@ exits_usage (Plain Request) n x e = absurd (omega arith)
 
 -- what a status asks of the task
 abbrev pub asked_by : Task → ℕ → Bool
-asked_by task n = if n == 3 then uses_line task else (if n == 4 || n == 7 then is_upkeep task else (if n == 8 then is_signing task else true))
+asked_by task n = if n == 3 then uses_line task else (if n == 4 || n == 7 then ends_by_store task else (if n == 8 then is_signing task else true))
 
 pub exits_asked : (task : Task) (ended : RunOutcome) (n : ℕ) → Exits ended n → Fits task ended → asked_by task n ≡ true
 exits_asked task (Told told) n (inl zero) fits = ap (asked_by task) zero
@@ -89,6 +89,9 @@ serving_tells (to_serve serving) is = refl
 serving_tells (to_sign id region) is = absurd (let no : false ≡ true = is in cc)
 serving_tells (to_presign id region expires) is = absurd (let no : false ≡ true = is in cc)
 serving_tells to_recover is = absurd (let no : false ≡ true = is in cc)
+serving_tells (to_sweep before) is = absurd (let no : false ≡ true = is in cc)
+serving_tells to_check is = absurd (let no : false ≡ true = is in cc)
+serving_tells (to_try number requests) is = absurd (let no : false ≡ true = is in cc)
 
 pub serving_plain : (task : Task) (ended : RunOutcome) → is_serving task ≡ true → Fits task ended → is_plain ended ≡ true
 serving_plain task (Told told) serving fits = absurd (let no : None ≡ Some (kind_of told) = sym (serving_tells task serving) ∙ fits in cc)

@@ -21,7 +21,7 @@ use Rattle.gateway_cmd.proofs.Exits.{Exits}
 
 -- ---- whatever the status
 
-quiet_of : {h : History} {p q : ℕ} (result : Result (Unit {0}) SettleFault) → Keeps h p q SettlesIt (as_plan result) → Stutters h p q
+pub quiet_of : {h : History} {p q : ℕ} (result : Result (Unit {0}) SettleFault) → Keeps h p q SettlesIt (as_plan result) → Stutters h p q
 quiet_of (Ok done) keeps = keeps.0
 quiet_of (Err settling.Failed) keeps = keeps.0
 quiet_of (Err settling.Memory) keeps = keeps.0
@@ -42,10 +42,10 @@ was_tried (was_settled result settles is) good other = (result, settles, is)
 -- ---- by the status
 
 -- the count of faults stayed, by another status than 4
-stayed : {before now : ℕ} (n m : ℕ) → n ≡ m → (m == 4) ≡ false → now ≡ before → RisesIf (n == 4) before now
+pub stayed : {before now : ℕ} (n m : ℕ) → n ≡ m → (m == 4) ≡ false → now ≡ before → RisesIf (n == 4) before now
 stayed {before = before} {now = now} n m is other same = subst (λ failed. RisesIf failed before now) (sym (ap (λ k. k == 4) is ∙ other)) same
 
-faults_by : (before now : ℕ) (result : Result (Unit {0}) SettleFault) (n : ℕ) → Exits (recovered result) n → CausesFault before now (as_plan result) → RisesIf (n == 4) before now
+pub faults_by : (before now : ℕ) (result : Result (Unit {0}) SettleFault) (n : ℕ) → Exits (recovered result) n → CausesFault before now (as_plan result) → RisesIf (n == 4) before now
 faults_by before now (Ok done) n (inl zero) cause = stayed n 0 zero refl cause
 faults_by before now (Ok done) n (inr (inl five)) cause = stayed n 5 five refl cause
 faults_by before now (Ok done) n (inr (inr six)) cause = stayed n 6 six refl cause
@@ -54,7 +54,7 @@ faults_by before now (Err settling.Memory) n five cause = stayed n 5 five refl c
 faults_by before now (Err (settling.Inconsistent container name)) n (inl seven) cause = stayed n 7 seven refl cause
 faults_by before now (Err (settling.Inconsistent container name)) n (inr five) cause = stayed n 5 five refl cause
 
-never_seven : (h : History) (p q : ℕ) (result : Result (Unit {0}) SettleFault) (n : ℕ) → Exits (recovered result) n → Keeps h p q SettlesIt (as_plan result) → n ≡ 7 → ⊥
+pub never_seven : (h : History) (p q : ℕ) (result : Result (Unit {0}) SettleFault) (n : ℕ) → Exits (recovered result) n → Keeps h p q SettlesIt (as_plan result) → n ≡ 7 → ⊥
 never_seven h p q (Ok done) n (inl zero) keeps e = omega arith
 never_seven h p q (Ok done) n (inr (inl five)) keeps e = omega arith
 never_seven h p q (Ok done) n (inr (inr six)) keeps e = omega arith
@@ -63,7 +63,7 @@ never_seven h p q (Err settling.Memory) n five keeps e = omega arith
 never_seven h p q (Err (settling.Inconsistent container name)) n x keeps e = keeps
 
 -- 0 and 6 are those of a store that was settled
-settled_by : (result : Result (Unit {0}) SettleFault) (n : ℕ) → Exits (recovered result) n → (n ≡ 0) ⊎ (n ≡ 6) → result ≡ Ok tt
+pub settled_by : (result : Result (Unit {0}) SettleFault) (n : ℕ) → Exits (recovered result) n → (n ≡ 0) ⊎ (n ≡ 6) → result ≡ Ok tt
 settled_by (Ok done) n x e = refl
 settled_by (Err settling.Failed) n four (inl zero) = absurd (omega arith)
 settled_by (Err settling.Failed) n four (inr six) = absurd (omega arith)
@@ -74,12 +74,12 @@ settled_by (Err (settling.Inconsistent container name)) n (inl seven) (inr six) 
 settled_by (Err (settling.Inconsistent container name)) n (inr five) (inl zero) = absurd (omega arith)
 settled_by (Err (settling.Inconsistent container name)) n (inr five) (inr six) = absurd (omega arith)
 
-within_none : (most : Bound) (premises : Type 0) (p : ℕ) → IsWithin most premises p p
+pub within_none : (most : Bound) (premises : Type 0) (p : ℕ) → IsWithin most premises p p
 within_none (always n) premises p = omega arith
 within_none (by_account n) premises p = λ given. omega arith
 
 -- a run that did nothing has the status of refused words, or the one where memory ran out
-idle_status : {keys : List ℕ} {ended : RunOutcome} (n : ℕ) → IsIdle keys ended → Exits ended n → (n ≡ 2) ⊎ (n ≡ 5)
+pub idle_status : {keys : List ℕ} {ended : RunOutcome} (n : ℕ) → IsIdle keys ended → Exits ended n → (n ≡ 2) ⊎ (n ≡ 5)
 idle_status n (out_of_memory memory) x = inr (subst (λ how. Exits how n) memory x)
 idle_status n (keys_refused usage bad) x = inl (subst (λ how. Exits how n) usage x)
 

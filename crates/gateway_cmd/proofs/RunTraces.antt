@@ -8,7 +8,7 @@ use Rattle.swift_calls.specs.History.{History, Extends}
 use Rattle.upload_records.specs.Consistent.{IsConsistent}
 use Rattle.gateway.specs.declared.service.Service.{Service}
 use Rattle.gateway.specs.Exchange.{ReplyRelation, StoreCursor, Span, IsKnownOf, Replies, RepliesBy, CountedReplies, FaultFreeReplies}
-use Rattle.gateway.specs.Connection.{is_failed_end, is_store_end}
+use Rattle.gateway.specs.Connection.{is_failed_end}
 use Rattle.gateway.specs.Stands.{Follows, AllPass, StandsThroughout}
 use Rattle.gateway.proofs.lemmas.Counted.{replies_take}
 use Rattle.gateway.proofs.lemmas.Ending.{no_store_end}

@@ -28,9 +28,9 @@ use Rattle.gateway_cmd.specs.declared.status.RunOutcome.TheVariants.{Plain}
 use Rattle.gateway_cmd.specs.declared.status.Status.{Status}
 use Rattle.gateway_cmd.specs.declared.status.Status.TheVariants.{Done, Usage, Line, Store, Request, Memory}
 use Rattle.gateway_cmd.specs.Report.{is_failed_run, is_done, Admits, Fits}
-use Rattle.gateway_cmd.specs.Tasks.{Apart, settings_of, is_possible, Serving, service_of, Task, nothing, to_serve, to_sign, to_presign, to_recover}
+use Rattle.gateway_cmd.specs.Tasks.{Apart, settings_of, is_possible, Serving, service_of, Task, nothing, to_serve, to_sign, to_presign, to_recover, to_sweep, to_check, to_try}
 use Rattle.gateway_cmd.specs.Run.{run_cursor_of, RunTrace, none, more, RunTraces, RunTraced, RunStands, RunRefines}
-use Rattle.gateway_cmd.specs.Session.{is_end, NextCursor, LineServed, LineServesAll, RunServes, RunSigns, RunPresigns, IsIdle, out_of_memory, keys_refused, nothing_done, Does}
+use Rattle.gateway_cmd.specs.Session.{is_end, NextCursor, LineServed, LineServesAll, RunServes, RunSigns, RunPresigns, IsIdle, out_of_memory, keys_refused, nothing_done, none_swept, none_surveyed, Does, nothing_tried}
 use Rattle.gateway_cmd.proofs.Faulty.{none_faulty_of_none}
 use Rattle.gateway_cmd.proofs.RunTraces.{run_trace_agree, run_trace_follow, run_trace_pass, run_trace_stands}
 
@@ -146,6 +146,9 @@ does_none (to_sign id region) keys ended line store clock draws idle = run_signs
 does_none (to_presign id region expires) keys ended line store clock draws idle =
     run_presigns_none id region expires keys store.called ended line clock (idle_fails idle) (idle_never idle)
 does_none to_recover keys ended line store clock draws idle = nothing_done refl idle
+does_none (to_sweep before) keys ended line store clock draws idle = none_swept refl idle
+does_none to_check keys ended line store clock draws idle = none_surveyed refl idle
+does_none (to_try number requests) keys ended line store clock draws idle = nothing_tried refl idle
 
 -- by keys that are refused nothing can be done
 impossible_by : (task : Task) (keys : List ℕ) → are_keys (keys_of keys) ≡ false → is_possible task keys ≡ false
@@ -154,6 +157,9 @@ impossible_by (to_serve serving) keys bad = bad
 impossible_by (to_sign id region) keys bad = ap (λ b. b && is_some (secret_of id (keys_of keys))) bad
 impossible_by (to_presign id region expires) keys bad = ap (λ b. b && is_some (secret_of id (keys_of keys))) bad
 impossible_by to_recover keys bad = bad
+impossible_by (to_sweep before) keys bad = bad
+impossible_by to_check keys bad = bad
+impossible_by (to_try number requests) keys bad = bad
 
 idle_usage : (task : Task) (keys : List ℕ) (ended : RunOutcome) → IsIdle keys ended → ended ≡ Plain Usage → is_possible task keys ≡ false
 idle_usage task keys ended (out_of_memory memory) usage = absurd (let clash : Plain Memory ≡ Plain Usage = sym memory ∙ usage in cc)
@@ -170,6 +176,9 @@ draws_apart L S C D (to_serve serving) left draws = tt
 draws_apart L S C D (to_sign id region) left draws = (left.0, left.1, draws)
 draws_apart L S C D (to_presign id region expires) left draws = (left.0, draws)
 draws_apart L S C D to_recover left draws = (left.0, left.1, draws)
+draws_apart L S C D (to_sweep before) left draws = (left.0, left.1, draws)
+draws_apart L S C D to_check left draws = (left.0, left.1, draws)
+draws_apart L S C D (to_try number requests) left draws = (left.0, left.1, draws)
 
 pub idle_admits : (task : Task) (keys : List ℕ) (ended : RunOutcome) → IsIdle keys ended → Admits (is_possible task keys) ended
 idle_admits task keys ended idle = record { usage = idle_usage task keys ended idle; refused = λ no other. idle_refused keys ended idle other }

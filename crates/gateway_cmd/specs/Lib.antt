@@ -1,5 +1,7 @@
 pub mod Laws
+pub mod Lives
 pub mod Report
 pub mod Run
 pub mod Session
+pub mod Sweeps
 pub mod Tasks

@@ -1,5 +1,5 @@
 -- The statuses of the program `s3gate` and the lines that it reports. Source: this profile.
-use Rattle.std.specs.Prelude.{◌≡◌, ◌≢◌, ◌⊎◌, ℕ, Bool, true, false, List, [], ◌∷◌, ◌++◌, codes, IsTrue, Some, Result, Ok, Err}
+use Rattle.std.specs.Prelude.{◌≡◌, ◌≢◌, ◌⊎◌, ℕ, Bool, true, false, List, [], ◌∷◌, ◌++◌, codes, decimal, IsTrue, Some, Result, Ok, Err}
 use Rattle.gate_base.specs.Causes.{Rose}
 use Rattle.gate_base.specs.Told.{SinkModel, PutsPrefix}
 use Rattle.hex.specs.Hex.{encode_lower}
@@ -7,17 +7,24 @@ use Rattle.s3_names.specs.Escapes.{escaped_all}
 use Rattle.recovery.specs.declared.state.SettleFault.{SettleFault}
 use Rattle.recovery.specs.declared.state.SettleFault.TheVariants as settling
 use Rattle.sigv4.specs.declared.signature.Signed.{Signed}
+use Rattle.sweep.specs.declared.account.SweepFault.{SweepFault}
+use Rattle.sweep.specs.declared.account.SweepFault.TheVariants as sweeping
+use Rattle.sweep.specs.declared.account.Swept.{Swept}
+use Rattle.sweep.specs.declared.counting.Surveyed.{Surveyed}
 use Rattle.sign_cmd.specs.declared.first.Signing.{Signing}
 use Rattle.sign_cmd.specs.declared.first.Signing.TheVariants as signing
 use Rattle.presign_cmd.specs.declared.first.Presigning.{Presigning}
 use Rattle.presign_cmd.specs.declared.first.Presigning.TheVariants as presigning
+use Rattle.trial_cmd.specs.declared.serve.Trial.{Trial as TrialEnd}
+use Rattle.gateway.specs.declared.ended.Ended.{Ended}
+use Rattle.gateway.specs.declared.ended.Ended.TheVariants as connection
 use Rattle.gateway_cmd.specs.declared.status.Status.{Status}
 use Rattle.gateway_cmd.specs.declared.status.Status.TheVariants.{Done, Usage, Line, Store, Request, Memory}
 use Rattle.gateway_cmd.specs.declared.status.RunOutcome.{RunOutcome}
 use Rattle.gateway_cmd.specs.declared.status.RunOutcome.TheVariants.{Told, Inconsistent, Plain}
 use Rattle.gateway_cmd.specs.declared.status.Told.{Told as Reported}
-use Rattle.gateway_cmd.specs.declared.status.Told.TheVariants.{Signature, Url, Settled}
-use Rattle.gateway_cmd.specs.Tasks.{Task, Kind, a_signature, a_url, a_recovery, tells, is_serving, is_signing, is_upkeep, uses_line}
+use Rattle.gateway_cmd.specs.declared.status.Told.TheVariants.{Signature, Url, Settled, Sweep, Survey, Trial}
+use Rattle.gateway_cmd.specs.Tasks.{Task, Kind, a_signature, a_url, a_recovery, a_sweep, a_survey, tells, is_serving, is_signing, uses_line, a_trial, ends_by_store}
 
 -- the exit status
 abbrev pub code_of : Status → ℕ
@@ -49,6 +56,35 @@ signed_lines signed =
 abbrev pub url_report_line : List ℕ → List ℕ
 url_report_line url = codes "url " ++ (url ++ line_feed)
 
+-- the line of a sweep: what it removed, how many records it gave their moment, and how many completions it forgot
+unfoldable pub swept_line : Swept → List ℕ
+swept_line s =
+    (((((codes "swept segments " ++ decimal s.segments)
+    ++ (codes " records " ++ decimal s.records))
+    ++ (codes " containers " ++ decimal s.containers))
+    ++ (codes " migrated " ++ decimal s.migrated))
+    ++ (codes " forgotten " ++ decimal s.forgotten))
+    ++ line_feed
+
+abbrev pub sealed_word : Bool → List ℕ
+sealed_word true = codes " sealed yes" ++ line_feed
+sealed_word false = codes " sealed no" ++ line_feed
+
+-- the line of a survey: what stands on the account, and whether a completion is sealed on it
+unfoldable pub surveyed_line : Surveyed → List ℕ
+surveyed_line s =
+    (((((codes "buckets " ++ decimal s.buckets)
+    ++ (codes " objects " ++ decimal s.objects))
+    ++ (codes " uploads " ++ decimal s.uploads))
+    ++ (codes " kept " ++ decimal s.kept))
+    ++ (codes " orphans " ++ decimal s.orphans))
+    ++ sealed_word s.sealed
+
+-- the line of a trial
+abbrev pub trial_report_line : ℕ → ℕ → List ℕ → List ℕ
+trial_report_line requests size hash =
+    codes "requests " ++ decimal requests ++ codes " output " ++ decimal size ++ codes " " ++ encode_lower hash ++ line_feed
+
 -- the line that names an object of which the store answered what it doesn't over a consistent account
 abbrev pub inconsistent_line : List ℕ → List ℕ → List ℕ
 inconsistent_line container name = codes "s3gate: inconsistent " ++ (escaped_all container ++ (codes " " ++ (escaped_all name ++ line_feed)))
@@ -79,11 +115,44 @@ recovered (Err settling.Failed) = Plain Store
 recovered (Err settling.Memory) = Plain Memory
 recovered (Err (settling.Inconsistent container name)) = Inconsistent container name
 
+-- how a run ended whose account could not be swept or surveyed
+abbrev pub unswept : SweepFault → RunOutcome
+unswept sweeping.Failed = Plain Store
+unswept sweeping.Memory = Plain Memory
+unswept (sweeping.Inconsistent container name) = Inconsistent container name
+
+-- how a run ended that swept the account, once it was settled, or couldn't
+abbrev pub swept_outcome : Result Swept SweepFault → RunOutcome
+swept_outcome (Ok swept) = Told (Sweep swept)
+swept_outcome (Err fault) = unswept fault
+
+-- how a run ended that surveyed the account, or couldn't
+abbrev pub surveyed_outcome : Result Surveyed SweepFault → RunOutcome
+surveyed_outcome (Ok surveyed) = Told (Survey surveyed)
+surveyed_outcome (Err fault) = unswept fault
+
+-- how a run ended that tried the store, by how its connection did; its own line fails by want of memory alone
+abbrev pub tried : ℕ → ℕ → List ℕ → Ended → RunOutcome
+tried requests size hash connection.End = Told (Trial requests size hash)
+tried requests size hash connection.Closed = Told (Trial requests size hash)
+tried requests size hash (connection.CutShort place) = Told (Trial requests size hash)
+tried requests size hash (connection.Refused kind place) = Told (Trial requests size hash)
+tried requests size hash connection.LineFailed = Plain Memory
+tried requests size hash connection.StoreFailed = Plain Store
+tried requests size hash (connection.Inconsistent container name) = Inconsistent container name
+tried requests size hash connection.Memory = Plain Memory
+
+abbrev pub outcome_of_trial : ℕ → TrialEnd → RunOutcome
+outcome_of_trial requests trial = tried requests trial.size trial.hash trial.ended
+
 -- the lines that are reported of what a run has to tell
 abbrev pub lines_of : Reported → List ℕ
 lines_of (Signature signed) = signed_lines signed
 lines_of (Url url) = url_report_line url
 lines_of Settled = codes "settled" ++ line_feed
+lines_of (Sweep swept) = swept_line swept
+lines_of (Survey surveyed) = surveyed_line surveyed
+lines_of (Trial requests size hash) = trial_report_line requests size hash
 
 -- the run ended with nothing to tell of what it did
 abbrev pub is_plain : RunOutcome → Bool
@@ -95,18 +164,21 @@ abbrev pub kind_of : Reported → Kind
 kind_of (Signature signed) = a_signature
 kind_of (Url url) = a_url
 kind_of Settled = a_recovery
+kind_of (Sweep swept) = a_sweep
+kind_of (Survey surveyed) = a_survey
+kind_of (Trial requests size hash) = a_trial
 
 -- how a run may end, by what is asked for: with what is to be told; done with nothing to tell, where connections are served; for
--- the line where it is used; for the store, or what it answered of an object, where the account is kept up; without a request
+-- the line where it is used; for the store, or what it answered of an object, where that ends the run; without a request
 -- where one is to be signed; and, whatever is asked for, with words or keys that are refused (`Admits` says when), or because
 -- memory ran out
 abbrev pub Fits : Task → RunOutcome → Type 0
 Fits task (Told told) = tells task ≡ Some (kind_of told)
-Fits task (Inconsistent container name) = is_upkeep task ≡ true
+Fits task (Inconsistent container name) = ends_by_store task ≡ true
 Fits task (Plain Done) = is_serving task ≡ true
 Fits task (Plain Usage) = Unit {0}
 Fits task (Plain Line) = uses_line task ≡ true
-Fits task (Plain Store) = is_upkeep task ≡ true
+Fits task (Plain Store) = ends_by_store task ≡ true
 Fits task (Plain Memory) = Unit {0}
 Fits task (Plain Request) = is_signing task ≡ true
 

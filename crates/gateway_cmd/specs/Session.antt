@@ -20,17 +20,21 @@ use Rattle.sign_cmd.specs.Signing.{AnswersFirst, SendsFirst, SignsOn}
 use Rattle.sign_cmd.specs.declared.first.Signing.{Signing}
 use Rattle.presign_cmd.specs.Presigning.{Presigns, AnswersFirst as UrlFirst, SendsFirst as UrlSends}
 use Rattle.presign_cmd.specs.declared.first.Presigning.{Presigning}
+use Rattle.trial_cmd.specs.declared.serve.Trial.{Trial}
+use Rattle.trial_cmd.specs.Served.{TrialDoes, trial_service}
 use Rattle.gateway.specs.declared.service.Service.{Service}
 use Rattle.gateway.specs.Exchange.{ReplyRelation, Span}
-use Rattle.gateway.specs.Life.{Work, upkeep, answering, Promises}
+use Rattle.gateway.specs.Life.{upkeep, answering}
 use Rattle.gateway.specs.World.{World, ServesOver}
 use Rattle.gateway_cmd.specs.declared.status.Status.{Status}
 use Rattle.gateway_cmd.specs.declared.status.Status.TheVariants.{Done, Usage, Line, Store, Request as NoRequest, Memory}
 use Rattle.gateway_cmd.specs.declared.status.RunOutcome.{RunOutcome}
 use Rattle.gateway_cmd.specs.declared.status.RunOutcome.TheVariants.{Plain}
-use Rattle.gateway_cmd.specs.Report.{end_of, outcome_of_presigning, recovered, is_failed_run, is_done}
-use Rattle.gateway_cmd.specs.Tasks.{Task, nothing, to_serve, to_sign, to_presign, to_recover, Serving, service_of}
+use Rattle.gateway_cmd.specs.Report.{end_of, outcome_of_presigning, recovered, is_failed_run, is_done, outcome_of_trial}
+use Rattle.gateway_cmd.specs.Tasks.{Task, nothing, to_serve, to_sign, to_presign, to_recover, to_sweep, to_check, Serving, service_of, to_try}
 use Rattle.gateway_cmd.specs.Run.{run_cursor_of, ServesNext, RunTraces}
+use Rattle.gateway_cmd.specs.Lives.{RunWork, usual, forgetting, RunPromises}
+use Rattle.gateway_cmd.specs.Sweeps.{Sweeps, Surveys}
 
 -- no connection is left, or as many as were asked for began
 abbrev pub IsServedOut : Option ℕ → Transcript → Transcript → Type 0
@@ -137,6 +141,11 @@ pub data RunRecovers (keys : List ℕ) (ended : RunOutcome) (old new : History) 
   nothing_done : new ≡ old → IsIdle keys ended → RunRecovers keys ended old new
   was_settled : (result : Result (Unit {0}) SettleFault) → Settles old new result → ended ≡ recovered result → RunRecovers keys ended old new
 
+-- the store was tried, as one connection over it; or nothing was done
+pub data RunTries (number requests : ℕ) (keys : List ℕ) (ended : RunOutcome) (old new : History) : Type 0 where
+  nothing_tried : new ≡ old → IsIdle keys ended → RunTries number requests keys ended old new
+  was_served : (trial : Trial) → TrialDoes number requests old (Ok trial) new → ended ≡ outcome_of_trial requests trial → RunTries number requests keys ended old new
+
 -- what a run that settles does to the store, by its exit status: 4 comes where the store's count of faults rose, and only there; 7
 -- never over a consistent account; by 0 and 6 no completion is sealed any more. Whatever the status, the state stays at each
 -- number of calls
@@ -147,6 +156,22 @@ pub record StoreRecovered (status : ℕ) (old new : History) : Type 0 where
   pub same : Met Any old → Stutters new old.called new.called
   pub settled : IsTrue old.observable → (status ≡ 0) ⊎ (status ≡ 6) → IsSettled (present new)
 
+-- the account was settled and swept, or could not be; or nothing was done
+pub data RunSweeps (before : ℕ) (keys : List ℕ) (ended : RunOutcome) (old new : History) : Type 0 where
+  none_swept : new ≡ old → IsIdle keys ended → RunSweeps before keys ended old new
+  was_swept : Sweeps before ended old new → RunSweeps before keys ended old new
+
+-- the account was surveyed, or could not be; or nothing was done
+pub data RunSurveys (keys : List ℕ) (ended : RunOutcome) (old new : History) : Type 0 where
+  none_surveyed : new ≡ old → IsIdle keys ended → RunSurveys keys ended old new
+  was_surveyed : Surveys ended old new → RunSurveys keys ended old new
+
+-- what a run that tries the store does to it, by its exit status: 4 comes only where the store's count of faults rose, and 7 never
+-- over a consistent account
+pub record StoreTried (status : ℕ) (old new : History) : Type 0 where
+  pub faults : status ≡ 4 → Rose old.faults new.faults
+  pub consistent : Met Any old → status ≡ 7 → ⊥
+
 -- what a run does by its task, whose words are taken; `new` is the world at its end, by what is known of the store then
 abbrev pub Does : Task → List ℕ → RunOutcome → World → (Known → World) → Type 0
 Does nothing keys ended old new = Unit {0}
@@ -155,19 +180,26 @@ Does (to_sign id region) keys ended old new = RunSigns id region keys old.store.
 Does (to_presign id region expires) keys ended old new =
     RunPresigns id region expires keys old.store.called ended old.line (new Unsure).line old.clock (new Unsure).clock
 Does to_recover keys ended old new = RunRecovers keys ended old.store (new Unsure).store
+Does (to_sweep before) keys ended old new = RunSweeps before keys ended old.store (new Unsure).store
+Does to_check keys ended old new = RunSurveys keys ended old.store (new Unsure).store
+Does (to_try number requests) keys ended old new = RunTries number requests keys ended old.store (new Unsure).store
 
 -- ---- what a run is among others, one after another
 
--- requests are answered where connections are served, and else the state stays
-abbrev pub IsWorkOf : Task → Work → Type 0
-IsWorkOf nothing work = work ≡ upkeep
-IsWorkOf (to_serve serving) work = (spans : List Span) × (work ≡ answering serving.settings spans)
-IsWorkOf (to_sign id region) work = work ≡ upkeep
-IsWorkOf (to_presign id region expires) work = work ≡ upkeep
-IsWorkOf to_recover work = work ≡ upkeep
+-- requests are answered where connections are served, or the store is tried; a sweep forgets the completions from before its moment;
+-- and else the state stays
+abbrev pub IsWorkOf : Task → RunWork → Type 0
+IsWorkOf nothing work = work ≡ usual upkeep
+IsWorkOf (to_serve serving) work = (spans : List Span) × (work ≡ usual (answering serving.settings spans))
+IsWorkOf (to_sign id region) work = work ≡ usual upkeep
+IsWorkOf (to_presign id region expires) work = work ≡ usual upkeep
+IsWorkOf to_recover work = work ≡ usual upkeep
+IsWorkOf (to_sweep before) work = work ≡ forgetting before
+IsWorkOf to_check work = work ≡ usual upkeep
+IsWorkOf (to_try number requests) work = (spans : List Span) × (work ≡ usual (answering trial_service.settings spans))
 
 -- the work of a task was done between two numbers of calls, where the account was consistent at the first
 pub record HasWorked (task : Task) (old new : History) : Type 0 where
-  pub work : Work
+  pub work : RunWork
   pub is : IsWorkOf task work
-  pub promises : Promises new old.called new.called work
+  pub promises : RunPromises new old.called new.called work

@@ -21,6 +21,8 @@ use crate::keys::read_keys;
 use crate::recover::recover;
 use crate::session::session;
 use crate::status::{RunOutcome, Status, Told};
+use crate::sweeping::{check_account, sweep_account};
+use crate::trial::try_store;
 use account_calls::{Known, taken_text};
 use gate_base::{Bytes, Clock, Draws, Line, drop};
 use gateway::Service;
@@ -147,8 +149,8 @@ fn perform_by_keys<N: Line<W>, W: Swift, C: Clock, D: Draws>(
     }
 }
 
-/// Does what is asked for, where that is to settle the store, to sign, or to make a URL; else it ends as where memory ran out. It
-/// draws nothing, so what is said of worlds is said whatever the draws are.
+/// Does what is asked for, where that is to settle the store, to sweep or to count its account, to try it, to sign, or to make a URL;
+/// else it ends as where memory ran out. It draws nothing, so what is said of worlds is said whatever the draws are.
 fn perform_lent<N: Line<W>, W: Swift, C: Clock>(
     alloc: Global,
     command: &Command,
@@ -177,6 +179,9 @@ fn perform_lent<N: Line<W>, W: Swift, C: Clock>(
 {
     match command {
         Command::Recover => recover(alloc, store),
+        Command::Sweep { before } => sweep_account(alloc, *before, store),
+        Command::Check => check_account(alloc, store),
+        Command::Trial { number, requests } => try_store(alloc, *number, *requests, store),
         Command::Sign { key, region } => sign(alloc, keys, key, region, line, store),
         Command::Presign {
             key,

@@ -1,24 +1,28 @@
-ghost use Rattle.std.specs.Prelude.{◌≡◌, ◌⊎◌, ◌==◌, ◌<◌, ℕ, true, false, IsTrue, List, is_some, Result as result_of};
+ghost use Rattle.std.specs.Prelude.{◌≡◌, ◌⊎◌, ◌==◌, ◌<◌, ℕ, true, false, IsTrue, List, is_some, Ok, Result as result_of};
 ghost use Rattle.gate_base.specs.Causes.{Rose};
 ghost use Rattle.gate_base.specs.Told.{ClockNow};
-ghost use Rattle.swift_calls.specs.History.{budget, FaultFree};
+ghost use Rattle.swift_calls.specs.History.{budget, present, FaultFree};
 ghost use Rattle.account_calls.specs.declared.state.Known.TheVariants.{Unsure};
 ghost use Rattle.account_calls.specs.Calls.{Any, Met};
 ghost use Rattle.recovery.specs.declared.state.SettleFault.{SettleFault as unsettled};
 ghost use Rattle.recovery.specs.Settling.{Settles};
+ghost use Rattle.sweep.specs.Swept.{survey_of};
 ghost use Rattle.sigv4.specs.Keys.{keys_of, are_keys, secret_of};
 ghost use Rattle.sign_cmd.specs.Signing.{AnswersFirst, SendsFirst, SignsOn};
 ghost use Rattle.sign_cmd.specs.declared.first.Signing.{Signing};
 ghost use Rattle.presign_cmd.specs.Presigning.{Presigns, AnswersFirst as UrlFirst, SendsFirst as UrlSends};
 ghost use Rattle.presign_cmd.specs.declared.first.Presigning.{Presigning};
+ghost use Rattle.trial_cmd.specs.Served.{TrialDoes};
+ghost use Rattle.trial_cmd.specs.declared.serve.Trial.{Trial as trial_end};
 ghost use Rattle.gateway.specs.World.{world, IsObservable, Continues};
-ghost use Rattle.gateway_cmd.specs.Report.{is_plain, IsStatus, Fits, Says, Reports, end_of, outcome_of_presigning, recovered, code_of, line_of};
-ghost use Rattle.gateway_cmd.specs.Tasks.{Apart, asked_for, is_possible, is_serving, is_signing, is_upkeep, uses_line, tells, to_serve, to_sign, to_presign, to_recover, Serving, service_of};
+ghost use Rattle.gateway_cmd.specs.Report.{is_plain, IsStatus, Fits, Says, Reports, end_of, outcome_of_presigning, recovered, surveyed_line, swept_line, code_of, line_of, outcome_of_trial};
+ghost use Rattle.gateway_cmd.specs.Tasks.{Apart, asked_for, is_possible, is_serving, is_signing, uses_line, tells, to_serve, to_sign, to_presign, to_recover, to_sweep, to_check, Serving, service_of, ends_by_store, to_try};
 ghost use Rattle.gateway_cmd.specs.declared.status.RunOutcome.{RunOutcome as how};
 ghost use Rattle.gateway_cmd.specs.declared.status.RunOutcome.TheVariants as ends;
 ghost use Rattle.gateway_cmd.specs.declared.status.Status.TheVariants.{Done};
 ghost use Rattle.gateway_cmd.specs.Run.{RunTraced, RunStands, RunRefines};
-ghost use Rattle.gateway_cmd.specs.Session.{Does, HasWorked, LineServed, StoreRecovered};
+ghost use Rattle.gateway_cmd.specs.Session.{Does, HasWorked, LineServed, StoreRecovered, StoreTried};
+ghost use Rattle.gateway_cmd.specs.Sweeps.{LeavesSwept, StoreSurveyed, StoreSwept, Surveys, Sweeps};
 
 use crate::attempt::attempt;
 use crate::status::{RunOutcome, Status, Told, inconsistent_line, run_report_lines};
@@ -29,17 +33,19 @@ use swift_calls::Swift;
 /// A whole run of `s3gate` with these words, which follow the program's name, by the keys of a key text (see
 /// [`sigv4::Keys::read`]). `session` serves the connections of the line, `serve` no more of them than the words say,
 /// `sign` signs its first request, and `presign` makes a URL of it for the moment that the clock gives. `recover` settles the
-/// store. The answer is the exit status: 0 where no connection is left to serve, or the signature, the URL or that the store is
-/// settled was reported; 2 where the words are refused (see [`gateway_cli::read_words`]), or the key text, or it hasn't the key
-/// that is to sign; 3 where the line failed to give another connection, or at all while a request was to be signed; 4 where the
-/// store failed while it was to be settled; 5 where memory ran out; 6 where the report of what was done failed; 7 where the store,
-/// while it was to be settled, answered what it doesn't over a consistent account; 8 where no request stood first on the line, or
-/// one that can't be signed, or have a URL.
+/// store; `sweep` settles it, removes what is left over on its account, and forgets the completions from before a moment; `check`
+/// counts what stands on the account, and writes nothing; `trial` answers so many requests over the store that a number determines.
+/// The answer is the exit status: 0 where no connection is left to serve, or the signature, the URL, that the store is settled, what
+/// was removed or counted, or how the trial was answered was reported; 2 where the words are refused (see
+/// [`gateway_cli::read_words`]), or the key text, or it hasn't the key that is to sign; 3 where the line failed to give another
+/// connection, or at all while a request was to be signed; 4 where the store failed while it was to be settled, swept or counted, or
+/// under a trial's read; 5 where memory ran out; 6 where the report of what was done failed; 7 where the store then answered what it
+/// doesn't over a consistent account; 8 where no request stood first on the line, or one that can't be signed, or have a URL.
 ///
 /// Of a run that serves, three clauses say what became of its requests, each with its span: the numbers of calls before
 /// it, as its operation began, at its commit point, and after it. `traced` is over every store, `account` over every line,
 /// and `refines` joins both. So an account that is consistent at entry is left consistent also where a run is stopped (see
-/// [`gateway::law_many_runs`]).
+/// [`crate::law_many_runs_of_all`]).
 pub fn run<N: Line<W>, R: Sink, W: Swift, C: Clock, D: Draws>(
     alloc: Global,
     words: &[String],
@@ -56,9 +62,9 @@ pub fn run<N: Line<W>, R: Sink, W: Swift, C: Clock, D: Draws>(
     ensures refused { is_possible (asked_for words.now) keys.now ≡ false → (result ≡ 5 → ⊥)
         → result ≡ 2 }
     ensures line { result ≡ 3 → uses_line (asked_for words.now) ≡ true }
-    ensures upkeep { (result ≡ 4) ⊎ (result ≡ 7)
+    ensures store { (result ≡ 4) ⊎ (result ≡ 7)
         → (is_possible (asked_for words.now) keys.now ≡ true)
-        × (is_upkeep (asked_for words.now) ≡ true) }
+        × (ends_by_store (asked_for words.now) ≡ true) }
     ensures request { result ≡ 8 → (is_possible (asked_for words.now) keys.now ≡ true)
         × (is_signing (asked_for words.now) ≡ true) }
 
@@ -85,6 +91,29 @@ pub fn run<N: Line<W>, R: Sink, W: Swift, C: Clock, D: Draws>(
     // account stays at each number of calls, whatever the status; by 0 and 6 no completion is sealed on it any more.
     ensures recovering { asked_for words.now ≡ to_recover
         → StoreRecovered result (W.history store.old) (W.history store.new) }
+
+    // A run that sweeps: 4 comes only where the store's count of faults rose, and 7 never over a consistent account. Whatever the
+    // status, at each number of calls the state is the one at entry without the first of the completions that are to be forgotten.
+    // By 0 and 6 the account was swept from the number of calls at which it was settled: nothing is left over on it, and the counts
+    // are what the report says.
+    ensures sweeping { (before : ℕ) → asked_for words.now ≡ to_sweep before
+        → StoreSwept before result (W.history store.old) (W.history store.new) }
+    ensures swept { (before : ℕ) → asked_for words.now ≡ to_sweep before → Met Any (W.history store.old)
+        → (result ≡ 0) ⊎ (result ≡ 6)
+        → (leaves : LeavesSwept before (W.history store.old) (W.history store.new))
+        × Reports (swept_line leaves.swept) (R.model report.old) (R.model report.new) }
+
+    // A run that surveys: 4 and 7 come as above, and the state stays at each number of calls. By 0 and 6 the account is left as it is,
+    // and the report says what stands on it.
+    ensures checking { asked_for words.now ≡ to_check
+        → StoreSurveyed result (W.history store.old) (W.history store.new) }
+    ensures surveyed { asked_for words.now ≡ to_check → Met Any (W.history store.old)
+        → (result ≡ 0) ⊎ (result ≡ 6)
+        → Reports (surveyed_line (survey_of (present (W.history store.old)))) (R.model report.old) (R.model report.new) }
+
+    // A run that tries the store: 4 comes only where the store's count of faults rose, and 7 never over a consistent account.
+    ensures trying { (number requests : ℕ) → asked_for words.now ≡ to_try number requests
+        → StoreTried result (W.history store.old) (W.history store.new) }
 
     // The task was done as its end says, over line, store, clock and draws. The report has the lines of that end, and nothing else;
     // where its count of faults rose, the first bytes of them. It is left alone where all connections were served.
@@ -138,7 +167,7 @@ pub fn run<N: Line<W>, R: Sink, W: Swift, C: Clock, D: Draws>(
         (C.model clock.new) (D.model draws.new)) }
 
     // Over an observable store, whose account is consistent at entry, a run is one that may stand among others (see
-    // [`gateway::law_many_runs`]): it answers requests, or it leaves the state.
+    // [`crate::law_many_runs_of_all`]): it answers requests, or leaves the state, or forgets completions.
     ensures works { Met Any (W.history store.old)
         → HasWorked (asked_for words.now) (W.history store.old) (W.history store.new) }
 
@@ -167,6 +196,23 @@ pub fn run<N: Line<W>, R: Sink, W: Swift, C: Clock, D: Draws>(
         → (result ≡ 5 → ⊥) → (settled : result_of (Unit {0}) unsettled)
         × Settles (W.history store.old) (W.history store.new) settled × (text : List ℕ)
         × Says (recovered settled) result text
+        × Reports text (R.model report.old) (R.model report.new) }
+
+    // The account was swept, or surveyed, and how that ended is what is reported.
+    ensures effect_swept { (before : ℕ) → asked_for words.now ≡ to_sweep before → are_keys (keys_of keys.now) ≡ true
+        → (result ≡ 5 → ⊥) → (ended : how)
+        × Sweeps before ended (W.history store.old) (W.history store.new) × (text : List ℕ)
+        × Says ended result text × Reports text (R.model report.old) (R.model report.new) }
+    ensures effect_surveyed { asked_for words.now ≡ to_check → are_keys (keys_of keys.now) ≡ true
+        → (result ≡ 5 → ⊥) → (ended : how)
+        × Surveys ended (W.history store.old) (W.history store.new) × (text : List ℕ)
+        × Says ended result text × Reports text (R.model report.old) (R.model report.new) }
+
+    // The requests of the number were answered as one connection over the store, and how that ended is what is reported.
+    ensures effect_tried { (number requests : ℕ) → asked_for words.now ≡ to_try number requests
+        → are_keys (keys_of keys.now) ≡ true → (result ≡ 5 → ⊥) → (trial : trial_end)
+        × TrialDoes number requests (W.history store.old) (Ok trial) (W.history store.new)
+        × (text : List ℕ) × Says (outcome_of_trial requests trial) result text
         × Reports text (R.model report.old) (R.model report.new) }
 {
     let ended = attempt(alloc, words, keys, line, store, clock, draws);

@@ -1,10 +1,10 @@
 //! The command `recover`: a completion that is sealed on the store is taken to its end.
-ghost use Rattle.std.specs.Prelude.{◌≡◌, Result as result_of};
+ghost use Rattle.std.specs.Prelude.{◌≡◌, true, Result as result_of, Err};
 ghost use Rattle.account_calls.specs.Calls.{GoesOn};
 ghost use Rattle.recovery.specs.declared.state.SettleFault.{SettleFault as why};
 ghost use Rattle.recovery.specs.Settling.{Settles};
 ghost use Rattle.gateway_cmd.specs.Report.{Fits, recovered};
-ghost use Rattle.gateway_cmd.specs.Tasks.{to_recover};
+ghost use Rattle.gateway_cmd.specs.Tasks.{Task, ends_by_store, to_recover};
 
 use crate::status::{RunOutcome, Status, Told};
 use gate_base::Bytes;
@@ -21,18 +21,28 @@ pub fn recover<W: Swift>(alloc: Global, store: &mut W) -> RunOutcome
         × Settles (W.history store.old) (W.history store.new) settled
         × (result ≡ recovered settled) }
 {
-    match settle_for_recover_command(alloc, store) {
+    match settle_for_command(alloc, store) {
         Ok(()) => RunOutcome::Told(Told::Settled),
-        Err(SettleFault::Failed) => RunOutcome::Plain(Status::Store),
-        Err(SettleFault::Memory) => RunOutcome::Plain(Status::Memory),
-        Err(SettleFault::Inconsistent { container, name }) => {
+        Err(fault) => unsettled_outcome(fault),
+    }
+}
+
+/// How a run ends whose store could not be settled.
+pub fn unsettled_outcome(fault: SettleFault) -> RunOutcome
+    ensures is { result ≡ recovered (Err fault) }
+    ensures fits { (task : Task) → ends_by_store task ≡ true → Fits task result }
+{
+    match fault {
+        SettleFault::Failed => RunOutcome::Plain(Status::Store),
+        SettleFault::Memory => RunOutcome::Plain(Status::Memory),
+        SettleFault::Inconsistent { container, name } => {
             RunOutcome::Inconsistent { container, name }
         }
     }
 }
 
 /// Settles the store, by settings of no region and no least part: settling uses neither.
-fn settle_for_recover_command<W: Swift>(alloc: Global, store: &mut W) -> Result<(), SettleFault>
+pub fn settle_for_command<W: Swift>(alloc: Global, store: &mut W) -> Result<(), SettleFault>
     ensures { Settles (W.history store.old) (W.history store.new) result }
 {
     let settings = Settings {

@@ -1,11 +1,13 @@
-ghost use Rattle.std.specs.Prelude.{◌≡◌, IfOk};
-ghost use Rattle.gateway_cmd.specs.Report.{code_of, inconsistent_line, line_of, lines_of, signed_lines, url_report_line};
+ghost use Rattle.std.specs.Prelude.{◌≡◌, ◌++◌, IfOk, OnOk, decimal};
+ghost use Rattle.gateway_cmd.specs.Report.{code_of, inconsistent_line, line_of, lines_of, sealed_word, signed_lines, surveyed_line, swept_line, url_report_line, trial_report_line};
 ghost use Rattle.gateway_cmd.specs.declared.status.Told.TheVariants.{Settled};
 
 use gate_base::{Bytes, Memory};
 use s3_names::encode_all;
 use sigv4::Signed;
 use std::alloc::Global;
+use sweep::{Surveyed, Swept};
+use text_forms::append_decimal;
 
 /// How a run ended that has nothing to tell.
 #[derive(Clone, Copy, Debug, PartialEq, Eq)]
@@ -16,7 +18,7 @@ pub enum Status {
     Usage,
     /// The line failed to give another connection, or, where a request was to be signed, at any call.
     Line,
-    /// The store failed, where it was to be settled.
+    /// The store failed, where its account was to be kept up or counted.
     Store,
     /// No request stood first on the line, or one that can't be signed.
     Request,
@@ -65,6 +67,16 @@ pub enum Told {
     Url(Bytes),
     /// The store is settled.
     Settled,
+    /// The account was swept, and this was removed.
+    Sweep(Swept),
+    /// This stands on the account.
+    Survey(Surveyed),
+    /// So many requests of a trial were answered, by this many bytes with this SHA-256.
+    Trial {
+        requests: u64,
+        size: u64,
+        hash: [u8; 32],
+    },
 }
 
 /// How a run ended.
@@ -84,6 +96,13 @@ pub fn run_report_lines(alloc: Global, told: &Told) -> Result<Bytes, Memory>
         Told::Signature(signed) => signature_report_lines(alloc, signed),
         Told::Url(url) => url_report_line(alloc, url.as_slice()),
         Told::Settled => settled_report_line(alloc),
+        Told::Sweep(swept) => sweep_report_line(alloc, swept),
+        Told::Survey(surveyed) => survey_report_line(alloc, surveyed),
+        Told::Trial {
+            requests,
+            size,
+            hash,
+        } => trial_report_line(alloc, *requests, *size, hash),
     }
 }
 
@@ -115,6 +134,72 @@ fn settled_report_line(alloc: Global) -> Result<Bytes, Memory>
     ensures { IfOk result (λ line. line ≡ lines_of Settled) }
 {
     Bytes::from_slice(alloc, b"settled\n")
+}
+
+/// The line that reports what a sweep removed.
+#[tactic(auto, unfolding(crate::specs::Report::swept_line))]
+fn sweep_report_line(alloc: Global, swept: &Swept) -> Result<Bytes, Memory>
+    ensures { IfOk result (λ line. line ≡ swept_line swept.now) }
+{
+    let mut line = Bytes::from_slice(alloc, b"swept segments ")?;
+    append_decimal(&mut line, swept.segments)?;
+    append_report_count(&mut line, b" records ", swept.records)?;
+    append_report_count(&mut line, b" containers ", swept.containers)?;
+    append_report_count(&mut line, b" migrated ", swept.migrated)?;
+    append_report_count(&mut line, b" forgotten ", swept.forgotten)?;
+    line.append(b"\n")?;
+    Ok(line)
+}
+
+/// The line that reports what stands on the account.
+#[tactic(auto, unfolding(crate::specs::Report::surveyed_line))]
+fn survey_report_line(alloc: Global, surveyed: &Surveyed) -> Result<Bytes, Memory>
+    ensures { IfOk result (λ line. line ≡ surveyed_line surveyed.now) }
+{
+    let mut line = Bytes::from_slice(alloc, b"buckets ")?;
+    append_decimal(&mut line, surveyed.buckets)?;
+    append_report_count(&mut line, b" objects ", surveyed.objects)?;
+    append_report_count(&mut line, b" uploads ", surveyed.uploads)?;
+    append_report_count(&mut line, b" kept ", surveyed.kept)?;
+    append_report_count(&mut line, b" orphans ", surveyed.orphans)?;
+    line.append(sealed_word(surveyed.sealed))?;
+    Ok(line)
+}
+
+fn append_report_count(line: &mut Bytes, word: &[u8], count: u64) -> Result<(), Memory>
+    ensures { OnOk result (line.new ≡ line.old ++ (word.now ++ decimal count)) }
+{
+    line.append(word)?;
+    append_decimal(line, count)
+}
+
+fn sealed_word(sealed: bool) -> &'static [u8]
+    ensures { result.now ≡ sealed_word sealed }
+{
+    if sealed {
+        b" sealed yes\n"
+    } else {
+        b" sealed no\n"
+    }
+}
+
+/// The line that reports a trial.
+fn trial_report_line(
+    alloc: Global,
+    requests: u64,
+    size: u64,
+    hash: &[u8; 32],
+) -> Result<Bytes, Memory>
+    ensures { IfOk result (λ line. line ≡ trial_report_line requests size hash.now) }
+{
+    let mut line = Bytes::from_slice(alloc, b"requests ")?;
+    append_decimal(&mut line, requests)?;
+    line.append(b" output ")?;
+    append_decimal(&mut line, size)?;
+    line.append(b" ")?;
+    line.append(hex::encode(alloc, *hash)?.as_bytes())?;
+    line.append(b"\n")?;
+    Ok(line)
 }
 
 /// The line that names an object of which the store answered what it doesn't over a consistent account.

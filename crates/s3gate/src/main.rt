@@ -3,8 +3,9 @@
 //!
 //! `session` serves one connection on standard input and output, over a fresh store in memory. `serve` serves the clients
 //! that come to the place which `S3GATE_LISTEN` names, over the Swift store at `S3GATE_STORE`, in its account
-//! `S3GATE_ACCOUNT`, with the token `S3GATE_TOKEN`. `recover` settles that store. `sign` signs the first request of standard
-//! input, and `presign` makes a URL of it; nothing is written back.
+//! `S3GATE_ACCOUNT`, with the token `S3GATE_TOKEN`. `recover` settles that store; `sweep` removes what is left over on its account,
+//! and `check` counts what stands there. `sign` signs the first request of standard input, and `presign` makes a URL of it; nothing is
+//! written back. `trial` answers requests of its own over a store in memory.
 #![tactic(auto)]
 
 mod faults;
@@ -109,8 +110,8 @@ fn start_by_keys(rt: &HostRuntime, keys: &str) -> Result<u8, SetupFault> {
 fn start_with(rt: &HostRuntime, words: &[String], keys: &str) -> Result<u8, SetupFault> {
     if begins_with(words, b"serve") {
         serve(rt, words, keys)
-    } else if begins_with(words, b"recover") {
-        recover(rt, words, keys)
+    } else if is_upkeep(words) {
+        keep_up(rt, words, keys)
     } else {
         run_in_memory(rt, words, keys)
     }
@@ -211,12 +212,17 @@ fn accepted_command(rt: &HostRuntime, words: &[String], keys: &str) -> Option<Co
     }
 }
 
+/// Whether the first word is that of a command over the store alone.
+fn is_upkeep(words: &[String]) -> bool {
+    begins_with(words, b"recover") || begins_with(words, b"sweep") || begins_with(words, b"check")
+}
+
 /// A run over the Swift store alone: it has a line, and reads nothing of it.
-fn recover(rt: &HostRuntime, words: &[String], keys: &str) -> Result<u8, SetupFault> {
+fn keep_up(rt: &HostRuntime, words: &[String], keys: &str) -> Result<u8, SetupFault> {
     let limit = store_limit(rt)?;
     let place = store_place(rt)?;
     probe_accepted(rt, words, keys, &place, limit)?;
-    recover_store(rt, words, keys, place, limit)
+    keep_up_store(rt, words, keys, place, limit)
 }
 
 /// Asks the store whether it can bear the gateway, where the words are accepted.
@@ -238,7 +244,7 @@ fn is_accepted(rt: &HostRuntime, words: &[String], keys: &str) -> bool {
     accepted_command(rt, words, keys).is_some()
 }
 
-fn recover_store(
+fn keep_up_store(
     rt: &HostRuntime,
     words: &[String],
     keys: &str,

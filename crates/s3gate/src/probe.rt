@@ -64,11 +64,15 @@ fn answer_of_store(
     let own = clone_environment_runtime(rt)?;
     let mut link = TcpLink::new(own, rt.alloc(), address, limit.min(LONGEST_PROBE));
     let mut answer = Bytes::new(rt.alloc());
+    let mut body = Bytes::new(rt.alloc());
     if link.calls() >= CALL_LIMIT {
         return Ok(Err(Cause::Other));
     }
-    match link.exchange(request, &mut answer) {
-        Ok(()) => Ok(Ok(answer)),
+    match link.exchange(request, b"", &mut answer, &mut body) {
+        Ok(()) => {
+            answer.append(body.as_slice())?;
+            Ok(Ok(answer))
+        }
         Err(LinkFault::Memory) => Err(SetupFault::Memory),
         Err(LinkFault::Failed) => Ok(Err(link.cause().unwrap_or(Cause::Other))),
     }

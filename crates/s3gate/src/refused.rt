@@ -4,12 +4,15 @@ use gate_base::{Bytes, Memory};
 use std::alloc::Global;
 
 /// The commands, each with its options. Every option has a value.
-const COMMANDS: [(&[u8], &[&[u8]]); 5] = [
+const COMMANDS: [(&[u8], &[&[u8]]); 8] = [
     (b"session", &[b"--region", b"--least-part"]),
     (b"serve", &[b"--connections", b"--region", b"--least-part"]),
     (b"recover", &[]),
+    (b"sweep", &[b"--forget-before"]),
+    (b"check", &[]),
     (b"sign", &[b"--key", b"--region"]),
     (b"presign", &[b"--key", b"--region", b"--expires"]),
+    (b"trial", &[b"--number", b"--requests"]),
 ];
 
 /// The longest name of an option that is repeated.
@@ -27,7 +30,7 @@ pub fn refused_words_line(alloc: Global, words: &[String]) -> Result<Bytes, Memo
 }
 
 fn append_built_commands(line: &mut Bytes) -> Result<(), Memory> {
-    line.append(b"built are session, serve, recover, sign and presign")
+    line.append(b"built are session, serve, recover, sweep, check, sign, presign and trial")
 }
 
 fn append_refused_command(

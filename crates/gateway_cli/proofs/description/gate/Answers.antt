@@ -1,7 +1,7 @@
 use Rattle.std.proofs.Common.{◌≡◌, ◌∙◌, ap, true, codes}
 use Rattle.std.proofs.lemmas.Result.{IfOk-weaker}
 use Rattle.clap.specs.Simple.{App, app_of, app_of_fields, new_app, on_top, with_subcommand}
-use Rattle.gateway_cli.specs.Description.{gate_app, presign_app, recover_app, serve_app, session_app, sign_app, with_settings}
+use Rattle.gateway_cli.specs.Description.{check_app, gate_app, presign_app, recover_app, serve_app, session_app, sign_app, sweep_app, with_settings, trial_app}
 use Rattle.gateway_cli.proofs.description.gate.Goals as goal
 
 abbrev settings : App
@@ -22,6 +22,12 @@ returns c =
     c.in_ok-three.ensures ∙ ap (λ (app : App). with_subcommand app sign_app.top) two in
     let four : app_of c.in_ok-four.four ≡ with_subcommand (with_subcommand (with_subcommand (with_subcommand settings session_app.top) serve_app.top) sign_app.top) presign_app.top =
     c.in_ok-four.ensures ∙ ap (λ (app : App). with_subcommand app presign_app.top) three in
-    IfOk-weaker c.with_recover_description.result _ _
-    (λ command adds. adds ∙ ap (λ (app : App). with_subcommand app recover_app.top) four)
-    c.with_recover_description.ensures
+    let five : app_of c.in_ok-five.five ≡ with_subcommand (with_subcommand (with_subcommand (with_subcommand (with_subcommand settings session_app.top) serve_app.top) sign_app.top) presign_app.top) recover_app.top =
+    c.in_ok-five.ensures ∙ ap (λ (app : App). with_subcommand app recover_app.top) four in
+    let six : app_of c.in_ok-six.six ≡ with_subcommand (with_subcommand (with_subcommand (with_subcommand (with_subcommand (with_subcommand settings session_app.top) serve_app.top) sign_app.top) presign_app.top) recover_app.top) sweep_app.top =
+    c.in_ok-six.ensures ∙ ap (λ (app : App). with_subcommand app sweep_app.top) five in
+    let seven : app_of c.in_ok-seven.seven ≡ with_subcommand (with_subcommand (with_subcommand (with_subcommand (with_subcommand (with_subcommand (with_subcommand settings session_app.top) serve_app.top) sign_app.top) presign_app.top) recover_app.top) sweep_app.top) check_app.top =
+    c.in_ok-seven.ensures ∙ ap (λ (app : App). with_subcommand app check_app.top) six in
+    IfOk-weaker c.with_trial_description.result _ _
+    (λ command adds. adds ∙ ap (λ (app : App). with_subcommand app trial_app.top) seven)
+    c.with_trial_description.ensures

@@ -1,4 +1,3 @@
-use Rattle.std.proofs.Common.{sym}
 use Rattle.clap.specs.Matches.{found_of}
 use Rattle.gateway_cli.proofs.WordsLemmas.{named, unnamed}
 use Rattle.gateway_cli.proofs.read.command_named.Goals as goal

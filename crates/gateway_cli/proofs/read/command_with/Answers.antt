@@ -1,7 +1,7 @@
 use Rattle.std.proofs.Common.{◌∙◌, ap, codes}
 use Rattle.clap.specs.Matches.{found_of}
 use Rattle.clap.specs.Walk.{rows_of}
-use Rattle.gateway_cli.specs.Words.{command_with, presign_command_by_options, serve_command_by_options, session_command_by_options, sign_command_by_options}
+use Rattle.gateway_cli.specs.Words.{command_with, presign_command_by_options, serve_command_by_options, session_command_by_options, sign_command_by_options, sweep_command_by_options, trial_command_by_options}
 use Rattle.gateway_cli.proofs.WordsLemmas.{reads_where, given}
 use Rattle.gateway_cli.proofs.read.command_with.Goals as goal
 
@@ -42,3 +42,20 @@ returns-in-Presign-clause-reads c =
     reads_where _ _ c.presign_command_by_options.result
     (ap (command_with (rows_of found)) c.in-Presign.is ∙ (λ i. presign_command_by_options (key i) (region i) (expires i)))
     c.presign_command_by_options.ensures.reads
+
+pub returns-in-Sweep-clause-reads : goal.returns-in-Sweep-clause-reads
+returns-in-Sweep-clause-reads c =
+    let found = found_of c.args.found.now in
+    let before = given found (codes "forget-before") c.get_str-in-Sweep.ensures in
+    reads_where _ _ c.sweep_command_by_options.result
+    (ap (command_with (rows_of found)) c.in-Sweep.is ∙ (λ i. sweep_command_by_options (before i)))
+    c.sweep_command_by_options.ensures.reads
+
+pub returns-in-Trial-clause-reads : goal.returns-in-Trial-clause-reads
+returns-in-Trial-clause-reads c =
+    let found = found_of c.args.found.now in
+    let number = given found (codes "number") c.get_str-in-Trial.ensures in
+    let requests = given found (codes "requests") c.get_str-in-Trial-2.ensures in
+    reads_where _ _ c.trial_command_by_options.result
+    (ap (command_with (rows_of found)) c.in-Trial.is ∙ (λ i. trial_command_by_options (number i) (requests i)))
+    c.trial_command_by_options.ensures.reads

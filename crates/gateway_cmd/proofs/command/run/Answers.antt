@@ -10,6 +10,10 @@ use Rattle.gateway_cmd.specs.Tasks.{asked_for, is_serving}
 use Rattle.gateway_cmd.proofs.Exits.{Exits, says_exits, exits_status, exits_usage, asked_by, exits_asked, exits_done, exits_other, exits_told_of, told_of, admitted, serving_plain, exits_failed_run, serving_line}
 use Rattle.gateway_cmd.proofs.Sessions.{run_traced, run_stands, run_refines, unsure_met}
 use Rattle.gateway_cmd.proofs.Recoveries.{store_recovered, was_tried}
+use Rattle.gateway_cmd.proofs.Surveying.{store_surveyed, survey_reports, was_counted}
+use Rattle.gateway_cmd.proofs.SweepRuns.{was_cleared}
+use Rattle.gateway_cmd.proofs.SweptBy.{store_swept, sweep_reports}
+use Rattle.gateway_cmd.proofs.Trials.{store_tried, was_answered}
 use Rattle.gateway_cmd.proofs.Works.{works}
 use Rattle.gateway_cmd.proofs.command.run.Goals as goal
 
@@ -36,8 +40,8 @@ returns-clause-line g c = λ e.
     let task = asked_for c.args.words.now in
     sym (ap (asked_by task) e) ∙ exits_asked task _ _ (says_exits _ _ _ c.tell.ensures.says.1) c.attempt-ended.ensures.fits
 
-pub returns-clause-upkeep : goal.returns-clause-upkeep
-returns-clause-upkeep g c = λ either.
+pub returns-clause-store : goal.returns-clause-store
+returns-clause-store g c = λ either.
     let task = asked_for c.args.words.now in
     let exits = says_exits _ _ _ c.tell.ensures.says.1 in
     let a = c.attempt-ended.ensures in
@@ -69,6 +73,33 @@ pub returns-clause-recovering : goal.returns-clause-recovering
 returns-clause-recovering g c = λ is.
     let run = rw is at c.attempt-ended.ensures.does in
     store_recovered {old = g.W.Swift.history c.args.store.now} {new = g.W.Swift.history c.attempt-ended.new.store} c.tell.result (says_exits _ _ _ c.tell.ensures.says.1) run
+
+pub returns-clause-sweeping : goal.returns-clause-sweeping
+returns-clause-sweeping g c = λ before is.
+    let run = rw is at c.attempt-ended.ensures.does in
+    store_swept {old = g.W.Swift.history c.args.store.now} {new = g.W.Swift.history c.attempt-ended.new.store} c.tell.result (says_exits _ _ _ c.tell.ensures.says.1) run
+
+pub returns-clause-swept : goal.returns-clause-swept
+returns-clause-swept g c = λ before is met e.
+    let run = rw is at c.attempt-ended.ensures.does in
+    let says = c.tell.ensures.says in
+    sweep_reports {old = g.W.Swift.history c.args.store.now} {new = g.W.Swift.history c.attempt-ended.new.store} c.tell.result says.0 says.1 says.2 run met e
+
+pub returns-clause-checking : goal.returns-clause-checking
+returns-clause-checking g c = λ is.
+    let run = rw is at c.attempt-ended.ensures.does in
+    store_surveyed {old = g.W.Swift.history c.args.store.now} {new = g.W.Swift.history c.attempt-ended.new.store} c.tell.result (says_exits _ _ _ c.tell.ensures.says.1) run
+
+pub returns-clause-surveyed : goal.returns-clause-surveyed
+returns-clause-surveyed g c = λ is met e.
+    let run = rw is at c.attempt-ended.ensures.does in
+    let says = c.tell.ensures.says in
+    survey_reports {old = g.W.Swift.history c.args.store.now} {new = g.W.Swift.history c.attempt-ended.new.store} c.tell.result says.0 says.1 says.2 run met e
+
+pub returns-clause-trying : goal.returns-clause-trying
+returns-clause-trying g c = λ number requests is.
+    let run = rw is at c.attempt-ended.ensures.does in
+    store_tried {old = g.W.Swift.history c.args.store.now} {new = g.W.Swift.history c.attempt-ended.new.store} c.tell.result (says_exits _ _ _ c.tell.ensures.says.1) run
 
 pub returns-clause-report : goal.returns-clause-report
 returns-clause-report g c =
@@ -134,6 +165,25 @@ returns-clause-effect_recovered g c = λ asked good other.
     let run = rw asked at c.attempt-ended.ensures.does in
     let tried = was_tried run good (exits_other _ Memory _ (says_exits _ _ _ says.1) other) in
     (tried.0, tried.1, says.0, subst (λ how. Says how c.tell.result says.0) tried.2 says.1, says.2)
+
+pub returns-clause-effect_swept : goal.returns-clause-effect_swept
+returns-clause-effect_swept g c = λ before asked good other.
+    let says = c.tell.ensures.says in
+    let run = rw asked at c.attempt-ended.ensures.does in
+    (_, was_cleared run good (exits_other _ Memory _ (says_exits _ _ _ says.1) other), says.0, says.1, says.2)
+
+pub returns-clause-effect_surveyed : goal.returns-clause-effect_surveyed
+returns-clause-effect_surveyed g c = λ asked good other.
+    let says = c.tell.ensures.says in
+    let run = rw asked at c.attempt-ended.ensures.does in
+    (_, was_counted run good (exits_other _ Memory _ (says_exits _ _ _ says.1) other), says.0, says.1, says.2)
+
+pub returns-clause-effect_tried : goal.returns-clause-effect_tried
+returns-clause-effect_tried g c = λ number requests asked good other.
+    let says = c.tell.ensures.says in
+    let run = rw asked at c.attempt-ended.ensures.does in
+    let served = was_answered run good (exits_other _ Memory _ (says_exits _ _ _ says.1) other) in
+    (served.0, served.1, says.0, subst (λ how. Says how c.tell.result says.0) served.2 says.1, says.2)
 
 pub returns-clause-works : goal.returns-clause-works
 returns-clause-works g c = λ met.
