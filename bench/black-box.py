@@ -11,6 +11,7 @@ name has it. Only Python's own libraries are used.
 """
 import collections
 import contextlib
+import copy
 import datetime
 import email.utils
 import hashlib
@@ -59,8 +60,8 @@ ROOT = os.path.dirname(os.path.dirname(os.path.abspath(__file__)))
 KEYS = os.path.join(ROOT, "examples/keys.txt")
 USAGE = b"usage: s3gate session|serve|recover|sweep|check|sign|trial|presign\n"
 SETUP = b"s3gate: setup\n"
-BUILT = b"s3gate: built are session, serve, recover, sign and presign\n"
-OPTIONS = {"session": "; it has --region, --least-part\n", "serve": "; it has --connections, --region, --least-part\n", "recover": "; it has none\n", "sign": "; it has --key, --region\n", "presign": "; it has --key, --region, --expires\n"}
+BUILT = b"s3gate: built are session, serve, recover, sweep, check, sign, presign and trial\n"
+OPTIONS = {"session": "; it has --region, --least-part\n", "serve": "; it has --connections, --region, --least-part\n", "recover": "; it has none\n", "sweep": "; it has --forget-before\n", "check": "; it has none\n", "sign": "; it has --key, --region\n", "presign": "; it has --key, --region, --expires\n", "trial": "; it has --number, --requests\n"}
 
 
 def not_taken(command, what):
@@ -399,10 +400,12 @@ def words_and_environment_of_s3gate(check):
         check(f"serve {' '.join(words)!r}", (2, b"", USAGE + not_taken("serve", what)), ran(S3GATE, ["serve", *words], **usual))
     for command, words in (("sign", ["--region", "eu"]), ("presign", ["--key", "a"])):
         check(f"{command} without an option", (2, USAGE, not_taken(command, FORM)), ran(S3GATE, [command, *words]))
-    for words in (["--help"], ["-h"], ["--version"], ["help"], ["sweep"]):
+    for words in (["--help"], ["-h"], ["--version"], ["help"], ["sweeps"]):
         check(f"the word {words[0]!r}", (2, USAGE, BUILT), ran(S3GATE, words))
     for words, what in ((["recover", "photos"], ALONE), (["recover", "--region", "us-east-1"], "has no option --region"), (["recover", "--help"], "has no option --help")):
         check(f"the words {' '.join(words)!r}", (2, USAGE, not_taken("recover", what)), ran(S3GATE, words, **usual))
+    for words, what in ((["sweep", "photos"], ALONE), (["sweep", "--before", "1"], "has no option --before"), (["sweep", "--forget-before"], FORM), (["sweep", "--forget-before", "253402300800"], FORM), (["sweep", "--forget-before=yesterday"], FORM), (["check", "photos"], ALONE), (["check", "--forget-before", "1"], "has no option --forget-before")):
+        check(f"the words {' '.join(words)!r}", (2, USAGE, not_taken(words[0], what)), ran(S3GATE, words, **usual))
     check("--help of a session", (2, b"", USAGE + not_taken("session", "has no option --help")), ran(S3GATE, ["session", "--help"]))
     check("a session of nothing, with no environment", (0, b"", b""), ran(S3GATE, ["session"]))
     for name in usual:
@@ -410,7 +413,8 @@ def words_and_environment_of_s3gate(check):
         check(f"no {name}", (9, b"", SETUP + f"{name}: missing\n".encode()), ran(S3GATE, ["serve"], **given))
         check(f"an empty {name}", (9, b"", SETUP + f"{name}: empty\n".encode()), ran(S3GATE, ["serve"], **{**usual, name: ""}))
         if name != "S3GATE_LISTEN":
-            check(f"recover without {name}", (9, b"", SETUP + f"{name}: missing\n".encode()), ran(S3GATE, ["recover"], **given))
+            for command in ("recover", "sweep", "check"):
+                check(f"{command} without {name}", (9, b"", SETUP + f"{name}: missing\n".encode()), ran(S3GATE, [command], **given))
     for name in ("S3GATE_STORE", "S3GATE_ACCOUNT", "S3GATE_TOKEN"):
         for title, text in (("with a space", "a b"), ("of 1025 bytes", "a" * 1025), ("with a letter past ASCII", "ä"), ("with DEL", "a\x7f")):
             check(f"{name} {title}", (9, b"", SETUP + f"{name}: not 1 to 1024 bytes of visible ASCII\n".encode()), ran(S3GATE, ["serve"], **{**usual, name: text}))
@@ -1253,7 +1257,7 @@ def a_store_that_cannot_bear_the_gateway(check):
         ("an account that isn't there", {"account": answer(404, length=0)}, "S3GATE_ACCOUNT: the store answered 404"),
     ):
         with Store(info=info, account=account()) as store:
-            for command in ("serve", "recover"):
+            for command in ("serve", "recover", "sweep", "check"):
                 check(f"{command} with {title}", (9, b"", SETUP + why.encode() + b"\n"), ran(S3GATE, [command], S3GATE_STORE=store.text, **environment))
             check(f"refused words with {title}", (2, USAGE), ran(S3GATE, ["recover", "x"], S3GATE_STORE=store.text, **environment)[:2])
             check("and no call was made", [], store.calls)
@@ -2360,6 +2364,135 @@ def completions(check):
             check("the object goes, and the completion stays kept", [204, 200, (404, "NoSuchKey")], [brief(ask("DELETE", "/photos/a%20b")), brief(ask("POST", v, [], lists)), brief(ask("GET", "/photos/a%20b"))])
 
 
+def removed(segments=0, records=0, containers=0, migrated=0, forgotten=0):
+    """The line of a sweep."""
+    return f"swept segments {segments} records {records} containers {containers} migrated {migrated} forgotten {forgotten}\n".encode()
+
+
+def stands(buckets=0, objects=0, uploads=0, kept=0, orphans=0, sealed="no"):
+    """The line of a survey."""
+    return f"buckets {buckets} objects {objects} uploads {uploads} kept {kept} orphans {orphans} sealed {sealed}\n".encode()
+
+
+def night(store, *words, before="", **variables):
+    """The status and the output of a command over the store alone."""
+    usual = {"S3GATE_STORE": store, "S3GATE_ACCOUNT": ACCOUNT, "S3GATE_TOKEN": TOKEN, "S3GATE_LOG": "off"}
+    return ran(S3GATE, words, b"", before, **{**usual, **variables})[:2]
+
+
+def leave_over(check, title, store):
+    """What uploads, objects and a bucket leave. Segments that nothing names any more: three of an upload of which two parts were
+    completed and whose key was put anew, two of an abort whose first DELETE of a segment was lost, one of an object that was deleted, and
+    one beside a bucket that was deleted, where a record stands too. One upload stays open."""
+    with Gate(store.text, words=LEAST) as gate, gate.client(request("PUT", "/photos")) as client:
+        client.reply()
+
+        def ask(*words):
+            client.send(request(*words))
+            return client.reply()
+
+        def begin(target, *bodies):
+            id_ = text_of(b"UploadId", ask("POST", f"{target}?uploads").body)[0]
+            for number, body in enumerate(bodies, 1):
+                ask("PUT", f"{target}?uploadId={id_}&partNumber={number}", [], body)
+            return id_
+
+        def finish(target, *bodies):
+            return brief(ask("POST", f"{target}?uploadId={begin(target, *bodies)}", [], completion(*enumerate(bodies[:2], 1))))
+
+        check(f"{title}: an upload is completed with two of its parts", 200, finish("/photos/v", b"hello", b"world", b"again"))
+        check("its key is put anew", 200, brief(ask("PUT", "/photos/v", [], b"plain")))
+        check("an object of a part is made and deleted", [200, 204], [finish("/photos/x", b"x"), brief(ask("DELETE", "/photos/x"))])
+        begin("/photos/o", b"open")
+        check("a bucket with an upload is made and deleted", [200, 204], [brief(ask("PUT", "/gone")), begin("/gone/u", b"u") and brief(ask("DELETE", "/gone"))])
+        id_ = begin("/photos/w", b"one", b"two")
+        if isinstance(store, Store):
+            store.begin({5: lose_request})
+        check("an abort", 204, brief(ask("DELETE", f"/photos/w?uploadId={id_}")))
+    if isinstance(store, Store):
+        store.begin({})
+        return
+    with store.client() as client:
+        for number, body in ((1, b"one"), (2, b"two")):
+            type_ = f"application/octet-stream;s3={hashlib.md5(body).hexdigest()}.{MADE}.{id_}"
+            client.send(swift("PUT", f"/v1/{ACCOUNT}/photos%2Bsegments/{id_}/{number:05}", [("Content-Type", type_)], body))
+            check("a segment that an abort would have left", 201, brief(client.reply()))
+
+
+@group()
+def a_sweep_and_a_survey(check):
+    """What is left over is counted, and then removed once; what is used stays."""
+    for title, store in (("a scripted store", Store(account={})), ("swiftd", Swiftd())):
+        with store:
+            check(f"{title}: a survey of nothing", (0, stands()), night(store.text, "check"))
+            check("a sweep of nothing", (0, removed()), night(store.text, "sweep"))
+            leave_over(check, title, store)
+            check("a survey of what is left over", (0, stands(1, 1, 1, 2, 7)), night(store.text, "check"))
+            check("a survey whose report can't be written", 6, night(store.text, "check", before=">/dev/full")[0])
+            check("a sweep", (0, removed(7, 1, 2)), night(store.text, "sweep"))
+            check("another one", (0, removed()), night(store.text, "sweep", S3GATE_KEYS=KEYS))
+            check("a survey of the rest", (0, stands(1, 1, 1, 2)), night(store.text, "check"))
+            check("a sweep whose report can't be written", 6, night(store.text, "sweep", before=">/dev/full")[0])
+            check("completions from before 1970 are none", (0, removed()), night(store.text, "sweep", "--forget-before", "0"))
+            check("those from before tomorrow are two", (0, removed(forgotten=2)), night(store.text, "sweep", "--forget-before", str(int(time.time()) + 86400)))
+            check("a survey without them", (0, stands(1, 1, 1)), night(store.text, "check"))
+            with Gate(store.text) as gate:
+                check("the object stands", (200, b"plain"), both(gate.ask("GET", "/photos/v")))
+                check("and so does the open upload", (200, 1), listed(gate.ask("GET", "/photos?uploads")))
+    for command in ("sweep", "check"):
+        check(f"{command} without a store", (4, b"s3gate: store\n"), night(NOWHERE, command))
+
+
+@group()
+def the_parts_of_a_long_object_are_swept(check):
+    """An object of 1001 parts lists them through two sub-manifests; deleted, it leaves all of these."""
+    bodies = [b"x"] * 1001
+    with Swiftd() as store:
+        with Gate(store.text, words=LEAST) as gate, gate.client(request("PUT", "/photos")) as client:
+            client.reply()
+
+            def ask(*words):
+                client.send(request(*words))
+                return client.reply()
+
+            id_ = text_of(b"UploadId", ask("POST", "/photos/v?uploads").body)[0]
+            for number, body in enumerate(bodies, 1):
+                ask("PUT", f"/photos/v?uploadId={id_}&partNumber={number}", [], body)
+            check("an object of 1001 parts is made", 200, brief(ask("POST", f"/photos/v?uploadId={id_}", [], completion(*enumerate(bodies, 1)))))
+        check("a survey of it", (0, stands(1, 1, 0, 1)), night(store.text, "check"))
+        check("a sweep of it", (0, removed()), night(store.text, "sweep"))
+        with Gate(store.text) as gate:
+            check("it is deleted", 204, brief(gate.ask("DELETE", "/photos/v")))
+        check("a survey of its parts", (0, stands(1, 0, 0, 1, 1003)), night(store.text, "check"))
+        check("a sweep of its parts", (0, removed(1003)), night(store.text, "sweep"))
+        check("a survey of the rest", (0, stands(1, 0, 0, 1)), night(store.text, "check"))
+
+
+@group()
+def each_call_of_a_sweep_is_lost(check):
+    """Each call of both commands is lost in turn; what was removed stays removed, and the next sweep removes the rest."""
+    for command in ("sweep", "check"):
+        with Store(account={}) as store:
+            leave_over(check, command, store)
+            begun = copy.deepcopy(store.account)
+            store.begin({})
+            whole = night(store.text, command)
+            calls = len(store.calls)
+            done = copy.deepcopy(store.account)
+            check(f"{command} is done", (0, removed(7, 1, 2) if command == "sweep" else stands(1, 1, 1, 2, 7)), whole)
+            for title, act in (("its request", lose_request), ("its answer", lose_answer)):
+                for number in range(1, calls + 1):
+                    store.account = copy.deepcopy(begun)
+                    store.begin({number: act})
+                    check(f"{command} where call {number} loses {title}", (4, b"s3gate: store\n", number), (*night(store.text, command), len(store.calls)))
+                    if command == "check":
+                        check("and nothing was changed", True, store.account == begun)
+                    store.begin({})
+                    check("the next sweep is done", 0, night(store.text, "sweep")[0])
+                    if command == "sweep":
+                        check("and leaves the same", True, store.account == done)
+
+
 def deletion(*keys, quiet=False):
     """The body of a DeleteObjects."""
     objects = "".join(f"<Object><Key>{html.escape(it)}</Key></Object>" for it in keys)
@@ -3029,7 +3162,7 @@ def files_that_swiftd_refuses(check):
 def another_token(check):
     with Swiftd() as store:
         usual = {"S3GATE_STORE": store.text, "S3GATE_ACCOUNT": ACCOUNT, "S3GATE_TOKEN": "other", "S3GATE_KEYS": KEYS, "S3GATE_LOG": "off", "S3GATE_LISTEN": "127.0.0.1:0"}
-        for command in ("serve", "recover"):
+        for command in ("serve", "recover", "sweep", "check"):
             check(f"{command} by a token that swiftd doesn't take", (9, SETUP + b"S3GATE_TOKEN: the store answered 401\n"), ran(S3GATE, [command], **usual)[::2])
     with Swiftd() as store, Gate(store.text, S3GATE_ACCOUNT="other") as gate:
         check("an account that swiftd doesn't have", (503, "ServiceUnavailable"), brief(gate.ask("GET", "/")))

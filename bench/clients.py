@@ -18,6 +18,8 @@ with servers of its own; without PART all of them. The big object has 16 MiB unl
   places    1,100 silent connections, and 60 with 40 descriptors
   finish    a large reply that is still on its way when the last connection was served
   boto3     2, 8 and 32 clients of boto3, for N seconds each (5), directly and, where nginx is installed, through it
+  turns     2, 8, 32 and 64 clients, one of which sends 1,000 requests ahead all the time: the longest that another waits,
+            beside the sum of one request of each
 
 A line that ends in BAD says what went otherwise than it should, and the status is then 1.
 """
@@ -564,6 +566,47 @@ def part_boto3():
                 if shutil.which("nginx"):
                     with nginx(gate) as front:
                         boto_run("through nginx", front, number)
+
+
+def send_ahead(port, ready, ended):
+    """Sends 1,000 requests ahead, reads their replies, and begins again."""
+    with socket.socket() as it:
+        it.connect(("127.0.0.1", port))
+        it.settimeout(60)
+        it.sendall(GET)
+        due = len(reply(it))
+        ready.wait()
+        while not ended.is_set():
+            sender = threading.Thread(target=it.sendall, args=(GET * 1000,))
+            sender.start()
+            left = due * 1000
+            while left > 0:
+                left -= len(it.recv(min(left, 1 << 20)))
+            sender.join()
+
+
+def part_turns():
+    if importlib.util.find_spec("boto3") is None:
+        return tell("turns: boto3 isn't installed")
+    for number in (2, 8, 32, 64):
+        with Gate() as gate:
+            assert gate.signed("PUT", "/work", b"").startswith(b"HTTP/1.1 200")
+            place, rows = f"127.0.0.1:{gate.port}", []
+            for others, beside in ((1, False), (number - 1, True)):
+                results, ready, ended = multiprocessing.Queue(), multiprocessing.Barrier(others + beside), multiprocessing.Event()
+                workers = [multiprocessing.Process(target=boto_work, args=(place, it, ready, SECONDS, results)) for it in range(others)]
+                if beside:
+                    workers.append(multiprocessing.Process(target=send_ahead, args=(gate.port, ready, ended)))
+                for it in workers:
+                    it.start()
+                got = [results.get() for _ in range(others)]
+                ended.set()
+                for it in workers:
+                    it.join()
+                rows.append(([one for these, _ in got for one in these], sum(lost for _, lost in got)))
+            (alone, _), (times, lost) = rows
+            most = number * max(alone)
+            tell(f"turns: {number} clients, one of them 1,000 requests ahead: the others wait {at(times, 0.5):.1f} ms at the middle, {max(times):.0f} at most; one alone {at(alone, 0.5):.1f}, {max(alone):.0f} at most, so one of each {most:.0f} at most; {lost} lost", lost == 0 and max(times) < most)
 
 
 def main(words):

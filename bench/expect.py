@@ -23,9 +23,10 @@ GIVEN = {
     "tell": r"calls|left|objects|bodies",
 }
 # Those that may stand more than once in a case, and those below which lines `>` stand.
-OFTEN = {"key", "connection", "tell", "file", "manifest", "files"}
-# The form of a line of a setup that puts a file on its account: container, name and bytes; or container, name, type and segments.
-FILE = re.compile(r"file \S+ \S+ .*|manifest \S+ \S+ \S+ .*|files \S+ [0-9]+ \S+ .*")
+OFTEN = {"key", "connection", "tell", "file", "typed", "manifest", "files"}
+# The form of a line of a setup that puts a file on its account: container, name and bytes; or container, name, type, and bytes or
+# segments.
+FILE = re.compile(r"file \S+ \S+ .*|(typed|manifest) \S+ \S+ \S+ .*|files \S+ [0-9]+ \S+ .*")
 TAKES_BYTES = {"setup", "connection", "probe"}
 BYTES = re.compile(r">|>[.n]? .+|>\* \d+ .+|>x ([0-9a-fA-F]{2})+|>~ \d{8}T\d{6}Z \S+ [0-9a-f]{64}")
 VERB = re.compile(r"[a-z][a-z0-9-]*( .+)?")
@@ -57,7 +58,7 @@ class Case:
         if self.first == "setup" and FILE.fullmatch(line):
             self.words.append(word)
             return None
-        if self.first == "setup" or word not in GIVEN or not re.fullmatch(GIVEN[word], text):
+        if (self.first == "setup" and word != "words") or word not in GIVEN or not re.fullmatch(GIVEN[word], text):
             return "no line that a run is given"
         if word in self.words and word not in OFTEN:
             return "a word that stands twice in a case"

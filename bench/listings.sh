@@ -1,6 +1,7 @@
 #!/usr/bin/env bash
 # What a listing of 1,000 keys takes out of 1,000, 10,000 and 100,000, by `s3gate serve` over `swiftd` and by the store alone;
-# and what requests on uploads take that make a call for each upload or part, for 100 of them and for 1,000.
+# what requests on uploads take that make a call for each upload or part, for 100 of them and for 1,000; and what an object of
+# 1,000 and of 10,000 parts of one byte takes, from its upload to its copy, with the most memory that both programs had.
 #
 #   bench/listings.sh [FOLDER] [ROUNDS]
 #
@@ -45,7 +46,7 @@ def started(words, place, report=subprocess.DEVNULL, **variables):
                 break
             time.sleep(0.05)
         try:
-            yield
+            yield process
         finally:
             process.kill()
 
@@ -56,9 +57,10 @@ def swift(client, method, path, headers=(), body=b""):
     return answer.status, answer.read()
 
 
-def s3(client, place, method, path):
-    lines = sign.signed(f"{method} {path} HTTP/1.1\r\nhost: {place}", *KEY, datetime.datetime.now(datetime.timezone.utc)).split("\r\n")[1:]
-    client.request(method, path, b"", {**dict(line.split(": ", 1) for line in lines), "Content-Length": "0"})
+def s3(client, place, method, path, body=b"", **headers):
+    given = "".join(f"\r\n{name.replace('_', '-')}: {value}" for name, value in headers.items())
+    lines = sign.signed(f"{method} {path} HTTP/1.1\r\nhost: {place}{given}", *KEY, datetime.datetime.now(datetime.timezone.utc)).split("\r\n")[1:]
+    client.request(method, path, body, {**dict(line.split(": ", 1) for line in lines), "Content-Length": str(len(body))})
     answer = client.getresponse()
     return answer.status, answer.read()
 
@@ -69,7 +71,7 @@ def middle(ask, rounds=ROUNDS):
         begun = time.perf_counter()
         status, body = ask()
         times.append(time.perf_counter() - begun)
-        if status not in (200, 204):
+        if status not in (200, 204, 206):
             sys.exit(f"a request is answered {status}: {body[:300]}")
     return sorted(times)[rounds // 2] * 1000, body
 
@@ -120,6 +122,70 @@ def upload_rows(s3gate, store, gate, many):
             gateway.close()
 
 
+def most_memory(process):
+    """The most memory that a process had, in MB."""
+    with open(f"/proc/{process.pid}/status", encoding="ascii") as status:
+        return next(int(line.split()[1]) / 1000 for line in status if line.startswith("VmHWM"))
+
+
+def begin_upload(client, place, path):
+    status, body = s3(client, place, "POST", f"{path}?uploads")
+    if status != 200:
+        sys.exit(f"an upload isn't begun: {status} {body[:300]}")
+    return body.partition(b"<UploadId>")[2].partition(b"<")[0].decode()
+
+
+def put_parts(client, place, path, id_, number):
+    for at in range(1, number + 1):
+        status, body = s3(client, place, "PUT", f"{path}?partNumber={at}&uploadId={id_}", b"%d" % (at % 10))
+        if status != 200:
+            sys.exit(f"a part is answered {status}: {body[:300]}")
+    return 200, b""
+
+
+def part_rows(s3gate, store, gate, many):
+    """An object of so many parts of one byte: what is asked, of how many, by how many calls of the last request, and the milliseconds."""
+    etags = {at: hashlib.md5(b"%d" % at).hexdigest() for at in range(10)}
+    for number in 1000, 10000:
+        place = {"S3GATE_KEYS": os.path.abspath("examples/keys.txt"), "S3GATE_LISTEN": gate, "S3GATE_STORE": store, "S3GATE_ACCOUNT": ACCOUNT, "S3GATE_TOKEN": TOKEN}
+        with tempfile.TemporaryFile() as log, started([s3gate, "serve", "--least-part", "1", *many], gate, log, **place) as process:
+            client = http.client.HTTPConnection(gate, timeout=600)
+            bucket, path = f"/large{number}", f"/large{number}/v"
+            s3(client, gate, "PUT", bucket)
+            id_, other = begin_upload(client, gate, path), begin_upload(client, gate, path)
+            wanted = b"<CompleteMultipartUpload>" + b"".join(b"<Part><PartNumber>%d</PartNumber><ETag>%s</ETag></Part>" % (at, etags[at % 10].encode()) for at in range(1, number + 1)) + b"</CompleteMultipartUpload>"
+
+            def all_pages():
+                marker, parts = 0, 0
+                while True:
+                    status, body = s3(client, gate, "GET", f"{path}?uploadId={id_}&part-number-marker={marker}")
+                    parts += body.count(b"<Part>")
+                    if b"<IsTruncated>true" not in body:
+                        return status if parts == number else f"with {parts} parts", b""
+                    marker = int(body.partition(b"<NextPartNumberMarker>")[2].partition(b"<")[0])
+
+            whole = b"".join(b"%d" % (at % 10) for at in range(1, number + 1))
+            half = number // 2
+            for title, ask, rounds, due in (
+                ("its parts", lambda: put_parts(client, gate, path, id_, number), 1, None),
+                ("ListParts, all pages", all_pages, 1, None),
+                ("CompleteUpload", lambda: s3(client, gate, "POST", f"{path}?uploadId={id_}", wanted), 1, b"-%d" % number),
+                ("the same again", lambda: s3(client, gate, "POST", f"{path}?uploadId={id_}", wanted), 1, b"-%d" % number),
+                ("its bytes", lambda: s3(client, gate, "GET", path), 1, whole),
+                ("11 bytes in its middle", lambda: s3(client, gate, "GET", path, Range=f"bytes={half}-{half + 10}"), ROUNDS, whole[half : half + 11]),
+                ("CopyObject of it", lambda: s3(client, gate, "PUT", f"{bucket}/w", x_amz_copy_source=path), 1, b"CopyObjectResult"),
+                ("the copy's bytes", lambda: s3(client, gate, "GET", f"{bucket}/w"), 1, whole),
+                ("another upload's parts", lambda: put_parts(client, gate, path, other, number), 1, None),
+                ("AbortUpload of it", lambda: s3(client, gate, "DELETE", f"{path}?uploadId={other}"), 1, None),
+            ):
+                took, body = middle(ask, rounds)
+                if due is not None and due not in body:
+                    sys.exit(f"{title} has {body[:300]}")
+                yield title, number, calls_of(log), took
+            client.close()
+            yield "s3gate's most memory, MB", number, "", most_memory(process)
+
+
 def calls_of(log):
     """The calls that the last reply took, by the log, whose line comes once the reply is sent."""
     size = 0
@@ -128,7 +194,7 @@ def calls_of(log):
         log.seek(0)
         text = log.read()
         if len(text) == size and text:
-            return int(text.splitlines()[-1].split()[-2])
+            return int(text.splitlines()[-1].split()[7])
         size = len(text)
 
 
@@ -140,7 +206,7 @@ def main():
     print(f"{datetime.datetime.now(datetime.timezone.utc):%Y-%m-%d %H:%M} UTC, {os.cpu_count()} processors, load {load}; {ROUNDS} rounds")
     print("| keys | the store's page, ms | first page, ms | last page, ms | with a delimiter, ms |\n|---|---|---|---|---|")
     with contextlib.ExitStack() as stack:
-        stack.enter_context(started([swiftd, "--token", TOKEN, "--account", ACCOUNT, *many], store, SWIFTD_LISTEN=store))
+        kept = stack.enter_context(started([swiftd, "--token", TOKEN, "--account", ACCOUNT, *many], store, SWIFTD_LISTEN=store))
         client = http.client.HTTPConnection(store, timeout=60)
         stored = 0
         kind = f"binary/octet-stream;s3={EMPTY}.1369353600.-"
@@ -169,6 +235,10 @@ def main():
         print("\n| request | of | calls | ms |\n|---|---|---|---|")
         for title, number, calls, took in upload_rows(s3gate, store, gate, many):
             print(f"| {title} | {number:,} | {calls:,} | {took:.1f} |", flush=True)
+        print("\n| an object of parts of one byte | parts | calls of the last request | ms |\n|---|---|---|---|")
+        for title, number, calls, took in part_rows(s3gate, store, gate, many):
+            print(f"| {title} | {number:,} | {calls} | {took:.1f} |", flush=True)
+        print(f"| swiftd's most memory, MB | {number:,} | | {most_memory(kept):.1f} |")
 
 
 main()

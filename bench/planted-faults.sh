@@ -1,6 +1,7 @@
 #!/usr/bin/env bash
 # Whether the cases see what they are there to see: plants one fault after another in a copy of the crates, runs the program
-# `cases` on it without a proof, and says whether it printed something else than its `stdout` has for these files.
+# `cases` on it without a proof, and says whether it printed something else than its `stdout` has for these files. A fault in what
+# `cases` doesn't use is looked for by the tests of `outside_tests`: whether one of them fails.
 #
 #   bench/planted-faults.sh [WORD]     only the faults whose name has the word; some two minutes of processor a fault
 #   bench/planted-faults.sh --texts    only whether the text of each fault stands in its file, which takes no time
@@ -11,9 +12,15 @@ cd "$(dirname "$0")/.."
 exec python3 - "$@" <<'PYTHON'
 import os, shutil, subprocess, sys, tempfile
 
+# In place of the files of cases.
+OUTSIDE = "outside_tests"
+
 # A name, the file below crates/, which occurrence of the old text, the old text, the new one; and the files of cases that are
-# run, where it takes others.
+# run, where it takes others, or that the tests of sockets and the log are.
 FAULTS = [
+    ("wire_log next: no connection is begun", "wire_log/src/logged_line.rt", 1, "let result = self.line.next();", "let result: Result<bool, Failed> = Ok(false);", OUTSIDE),
+    ("wire_log read: less is told than was read", "wire_log/src/logged_line.rt", 1, "                Ok(count)\n", "                Ok(count / 2)\n", OUTSIDE),
+    ("wire_log write: nothing is sent", "wire_log/src/logged_line.rt", 1, "let result = self.line.write(store, bytes);", "let result = self.line.write(store, b\"\");", OUTSIDE),
     ("gate_base write: bytes are sent, and the write failed", "gate_base/src/line_memory.rt", 1, "Ok(()) => Ok(()),", "Ok(()) => Err(Failed),"),
     ("gate_base draw: the last one again", "gate_base/src/told_memory.rt", 1, "None => draw.wrapping_add(1),", "None => draw,"),
     ("gate_base begin: a connection is skipped", "gate_base/src/wire_memory.rt", 1, "match self.waiting.next() {", "match self.waiting.next().and(self.waiting.next()) {"),
@@ -43,6 +50,7 @@ FAULTS = [
     ("upload_calls list_parts: the part of the marker too", "upload_calls/src/listed_parts.rt", 1, "segment_name(alloc, id, marker)?", "segment_name(alloc, id, marker.saturating_sub(1))?", ["uploads.txt"]),
     ("many_keys delete_keys: the first key stays", "many_keys/src/deletions.rt", 1, "    for key in keys {\n", "    for key in keys.iter().skip(1) {\n", ["many_keys.txt"]),
     ("many_keys delete_keys: the keys behind a failed call are tried", "many_keys/src/deletions.rt", 1, "        delete_key(state, bucket, key)?;\n", "        let _ = delete_key(state, bucket, key);\n", ["many_keys.txt"]),
+    ("many_keys delete_key: a key of 1024 bytes is reported untried", "many_keys/src/deletions.rt", 1, "    delete_object(state, container, name)\n", "    if name.len() == 1024 {\n        return Ok(());\n    }\n    delete_object(state, container, name)\n", ["many_keys.txt"]),
     ("many_keys content_of: the source's type and metadata, where they are replaced", "many_keys/src/source.rt", 1, "        Some(replaced) => replaced,\n", "        Some(_) => Replaced { content_type, meta },\n", ["copies.txt"]),
     ("many_keys copy_source_by_pieces: the id isn't looked for", "many_keys/src/listed.rt", 2, "    let id = free_id(alloc, state, &bucket, label.draw)?;\n", "    let id = label.draw;\n", ["copies.txt"]),
     ("many_keys get_piece_to_copy: each segment has the bytes of the first", "many_keys/src/segments.rt", 1, "segment_name(alloc, id, piece.number)?;", "segment_name(alloc, id, 1)?;", ["copies.txt"]),
@@ -110,6 +118,13 @@ def tried(room, file, number, old, new, files=FILES):
         return False, f"the text isn't there: {old.splitlines()[0]}"
     with open(path, "w", encoding="utf-8") as it:
         it.write(old.join(places[:number]) + new + old.join(places[number:]))
+    if files == OUTSIDE:
+        ran = subprocess.run(["rt", "try", "--test", "--seconds", "300"], cwd=f"{room}/crates/{OUTSIDE}", stdin=subprocess.DEVNULL, capture_output=True, text=True, errors="replace")
+        with open(path, "w", encoding="utf-8") as it:
+            it.write(text)
+        told = (ran.stdout + ran.stderr).strip().splitlines()
+        failed = [line for line in told if "failed" in line]
+        return bool(failed) and ran.returncode != 0, (failed or told)[-1:]
     folder = f"{room}/crates/cases"
     data = [word for name in files for word in ("--data", f"{name}=data/{name}")]
     ran = subprocess.run(["rt", "try", "--seconds", "300", *data, "--", *files], cwd=folder, stdin=subprocess.DEVNULL, capture_output=True, text=True, errors="replace")

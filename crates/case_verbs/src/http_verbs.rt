@@ -16,7 +16,7 @@
 //! `hmac KEY` is the code of the bytes by a key in hexadecimal digits. `secret ID` is the secret of an id, by a copy of the keys
 //! that the bytes give. `first [CALL]` signs the first request of a line, while its call of that number fails, and
 //! `first-of-none` one of a line of no connection. `verify-query MOMENT` tells of a presigned request what `verify` does, and
-//! `presign MOMENT SECONDS` the URL for a request.
+//! `presign MOMENT SECONDS` the URL for a request. `trial-input NUMBER REQUESTS` tells the bytes of so many requests of a trial.
 pub(crate) mod fronts;
 pub(crate) mod pages;
 pub(crate) mod presigned;

@@ -17,6 +17,7 @@ pub fn tell_verb(alloc: Global, verb: &str, text: &str, given: &[u8], told: &mut
         "front" => fronts::tell_first_front(alloc, text, given, told),
         "page" => pages::tell_printed_page(alloc, text, given, told),
         "memory" => pages::tell_memory_reply(alloc, text, told),
+        "trial-input" => signatures::tell_trial_input(alloc, text, told),
         "verify"
         | "canonical"
         | "verify-query"

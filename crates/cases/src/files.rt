@@ -8,8 +8,9 @@ use slo_manifest::{Form, read};
 use std::alloc::Global;
 use swift_calls::{ReadList, Swift, SwiftReply, SwiftRequest};
 
-/// Puts the files that a setup names by its lines `file CONTAINER NAME TEXT`, each into a container that is made for it; those that
-/// list segments, by its lines `manifest CONTAINER NAME TYPE TEXT`, each into a container that is there; and by its lines
+/// Puts the files that a setup names by its lines `file CONTAINER NAME TEXT`, each into a container that is made for it; those of
+/// a type, by its lines `typed CONTAINER NAME TYPE TEXT`, and those that list segments, by its lines
+/// `manifest CONTAINER NAME TYPE TEXT`, each into a container that is there; and by its lines
 /// `files CONTAINER COUNT TYPE FRONT` so many without a byte, into a container that is there, whose names are the front and the
 /// numbers from 0 on, of four digits.
 pub(crate) fn put_files_of_setup<W: Swift>(
@@ -21,6 +22,7 @@ pub(crate) fn put_files_of_setup<W: Swift>(
     for line in setup.lines.split('\n') {
         match cut_text(line, ' ') {
             ("file", text) => put_file_of_setup(alloc, text, store, told),
+            ("typed", text) => put_typed_file_of_setup(alloc, text, store, told),
             ("manifest", text) => put_manifest_of_setup(alloc, text, store, told),
             ("files", text) => put_numbered_files_of_setup(alloc, text, store, told),
             _ => {}
@@ -41,6 +43,20 @@ fn put_file_of_setup<W: Swift>(alloc: Global, text: &str, store: &mut W, told: &
         container: copy_of_bytes(alloc, container.as_bytes(), told),
         name: copy_of_bytes(alloc, name.as_bytes(), told),
         content_type: copy_of_bytes(alloc, b"application/json", told),
+        meta: List::new(alloc),
+        body: bytes_of_escaped_text(alloc, text, told),
+    };
+    put_for_setup(store, request, told);
+}
+
+fn put_typed_file_of_setup<W: Swift>(alloc: Global, text: &str, store: &mut W, told: &mut Told) {
+    let (container, text) = cut_text(text, ' ');
+    let (name, text) = cut_text(text, ' ');
+    let (content_type, text) = cut_text(text, ' ');
+    let request = SwiftRequest::PutObject {
+        container: copy_of_bytes(alloc, container.as_bytes(), told),
+        name: copy_of_bytes(alloc, name.as_bytes(), told),
+        content_type: copy_of_bytes(alloc, content_type.as_bytes(), told),
         meta: List::new(alloc),
         body: bytes_of_escaped_text(alloc, text, told),
     };

@@ -10,10 +10,10 @@ mod cases;
 mod ended;
 mod files;
 mod left;
+mod losses;
 mod machine;
 mod play;
 mod running;
-mod sweep;
 mod wire;
 
 use case_text::{Fault, Told, tell_value};

@@ -2,11 +2,11 @@
 //! beside it.
 use crate::files::put_files_of_setup;
 use crate::left::tell_left_after_run;
+use crate::losses::sweep_case;
 use crate::machine::compare_case_with_machine;
 use crate::running::{
     empty_store_for_run, failing_store_for_run, run_program_on_store, unfailing_store_for_run,
 };
-use crate::sweep::sweep_case;
 use crate::wire::play_wire;
 use case_text::{
     Fault, Given, LARGE, Told, are_pieces_successful, check_given_lines, given_numbers,

@@ -8,7 +8,12 @@ use std::process::Abort;
 use swift_client::TcpLink;
 use swift_requests::{Link, LinkFault};
 
-const ASKED: &[u8] = b"GET /v1/a/photos HTTP/1.1\r\nHost: h\r\nContent-Length: 0\r\n\r\n";
+/// The two pieces of a request, and both together.
+const HEAD: &[u8] = b"PUT /v1/a/photos/k HTTP/1.1\r\nHost: h\r\nContent-Length: 2\r\n\r\n";
+
+const BODY: &[u8] = b"ab";
+
+const ASKED: &[u8] = b"PUT /v1/a/photos/k HTTP/1.1\r\nHost: h\r\nContent-Length: 2\r\n\r\nab";
 
 const ANSWER: &[u8] = b"HTTP/1.1 200 OK\r\nContent-Length: 2\r\n\r\n[]";
 
@@ -23,14 +28,18 @@ fn connected<R: Net + Abort>(rt: &R) -> (R::Stream, R::Stream) {
     (stream, store)
 }
 
-/// Whether the request is answered by the answer.
+/// Whether the request, in two pieces, is answered by the answer, which comes in two.
 fn ask<L: Link>(alloc: Global, link: &mut L) -> Result<bool, LinkFault> {
     if link.calls() >= CALL_LIMIT {
         return Err(LinkFault::Memory);
     }
-    let mut reply = Bytes::new(alloc);
-    match link.exchange(ASKED, &mut reply) {
-        Ok(()) => Ok(reply.as_slice() == ANSWER),
+    let mut front = Bytes::new(alloc);
+    let mut rest = Bytes::new(alloc);
+    match link.exchange(HEAD, BODY, &mut front, &mut rest) {
+        Ok(()) => {
+            front.append(rest.as_slice())?;
+            Ok(front.as_slice() == ANSWER)
+        }
         Err(fault) => Err(fault),
     }
 }

@@ -4,7 +4,7 @@ use crate::settings::USUAL_REGION;
 use crate::talk::Talk;
 use case_text::{
     Fault, KEY_TEXT, Told, copy_of_bytes, cut_text, hex_bytes, line_of_one_connection,
-    number_of_text, numbers_of_text, tell_owned_value, tell_value,
+    number_of_text, numbers_of_text, tell_bytes_by_lines, tell_owned_value, tell_value,
 };
 use gate_base::{Bytes, Copying, List, MemLine, NoCount, drop};
 use http_wire::{Got, Message, ReadFault};
@@ -12,6 +12,7 @@ use s3_names::Target;
 use sign_cmd::sign_first;
 use sigv4::{Keys, canonical, hmac, is_date_time, verify};
 use std::alloc::Global;
+use trial_requests::{MOST_TRIAL_REQUESTS, trial_input};
 
 pub(crate) const SECRET: &[u8] = b"wJalrXUtnFEMI/K7MDENG/bPxRfiCYEXAMPLEKEY";
 
@@ -38,6 +39,19 @@ pub(crate) fn tell_signature_verb(
             let line = MemLine::new(alloc, List::new(alloc), 1, List::new(alloc));
             sign_first_on_line(alloc, told.keep_made(line), told);
         }
+    }
+}
+
+/// Tells the bytes of so many requests of a trial.
+pub(crate) fn tell_trial_input(alloc: Global, text: &str, told: &mut Told) {
+    let (number, requests) = cut_text(text, ' ');
+    let number = number_of_text(number, told);
+    let requests = number_of_text(requests, told);
+    if requests > MOST_TRIAL_REQUESTS {
+        return told.note_fault(Fault::Unread("too many requests"));
+    }
+    if let Some(input) = told.keep_made(trial_input(alloc, number, requests)) {
+        tell_bytes_by_lines(alloc, input.as_slice(), told);
     }
 }
 

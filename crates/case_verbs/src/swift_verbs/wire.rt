@@ -1,5 +1,6 @@
 //! Calls and answers in HTTP.
 ghost use Rattle.std.specs.Prelude.{IfSome};
+ghost use Rattle.swift_calls.specs.Step.{Fit};
 ghost use Rattle.swift_requests.specs.Place.{IsPlace};
 
 use crate::talk::Talk;
@@ -7,7 +8,7 @@ use case_text::{
     Fault, Told, bytes_of_escaped_text, copy_of_bytes, tell_copy_of_read, tell_owned_value,
     tell_value, text_of_bytes,
 };
-use gate_base::{Bytes, List, drop};
+use gate_base::{Bytes, List, Memory, drop};
 use http_answers::answer_end;
 use http_wire::{Got, Message};
 use std::alloc::Global;
@@ -103,11 +104,22 @@ fn tell_call_and_request(
     tell_copy_of_read(read, told);
     if let Ok(call) = read {
         if is_fit(call) {
-            tell_owned_value(write_call(alloc, place, call), told);
+            tell_owned_value(request_of_call(alloc, place, call), told);
         } else {
             told.note_fault(Fault::Unread("a call isn't within the limits"));
         }
     }
+}
+
+/// The request that is written for a call, in one piece.
+fn request_of_call(alloc: Global, place: &Place, call: &SwiftRequest) -> Result<Bytes, Memory>
+    requires place { IsPlace place.now }
+    requires fit { Fit call.now }
+{
+    let written = write_call(alloc, place, call)?;
+    let mut request = Bytes::from_slice(alloc, written.head.as_slice())?;
+    request.append(written.body(call))?;
+    Ok(request)
 }
 
 /// Tells the reply that the bytes behind the first empty line spell.
