@@ -8,7 +8,7 @@ import boto3
 from boto3.s3.transfer import TransferConfig
 from botocore.config import Config
 
-# boto3's own configuration works too: parts of 8 MiB, from 8 MiB on. s3gate takes 1000 parts of up to 16 MiB each, and larger parts
+# boto3's own configuration works too: parts of 8 MiB, from 8 MiB on. s3gate takes 10,000 parts of up to 16 MiB each, and larger parts
 # are fewer requests.
 transfer = TransferConfig(multipart_threshold=16 << 20, multipart_chunksize=16 << 20)
 
