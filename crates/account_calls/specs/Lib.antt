@@ -12,6 +12,7 @@ pub mod Purging
 pub mod Puts
 pub mod Refusals
 pub mod Sealed
+pub mod Shows
 pub mod Stutters
 pub mod SubManifests
 pub mod Told

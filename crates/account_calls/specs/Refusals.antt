@@ -17,76 +17,15 @@ use Rattle.s3_machine.specs.declared.code.Code.TheVariants.{
   PreconditionFailed,
 }
 use Rattle.s3_machine.specs.declared.operation.Op.{Op}
-use Rattle.s3_machine.specs.declared.operation.Op.TheVariants.{
-  ListBuckets,
-  CreateBucket,
-  DeleteBucket,
-  HeadBucket,
-  GetLocation,
-  GetBucketAcl,
-  PutBucketAcl,
-  ListObjects,
-  PutObject,
-  GetObject,
-  HeadObject,
-  DeleteObject,
-  GetObjectAcl,
-  ListUploads,
-  CreateUpload,
-  UploadPart,
-  ListParts,
-  CompleteUpload,
-  AbortUpload,
-  DeleteObjects,
-  CopyObject,
-  CopyPart,
-}
 use Rattle.s3_machine.specs.declared.operation.Reply.{Reply}
 use Rattle.s3_machine.specs.declared.operation.Reply.TheVariants.{Refused, NotModified}
 use Rattle.swift_calls.specs.History.{History}
 use Rattle.account_calls.specs.declared.fault.PlanFault.{PlanFault}
-
--- by how many calls an operation knows the buckets that it names, and by how many the object that it is on, or the source of a copy.
--- The first call tells of the bucket that it is in, and the second of its upload, where it is of one
-pub record Shows : Type 0 where
-  pub buckets : ℕ
-  pub object : ℕ
-
--- it names one bucket
-abbrev pub alone : Shows
-alone = record { buckets = 1; object = 2 }
-
--- and then that of a source
-abbrev pub with_source : Shows
-with_source = record { buckets = 2; object = 3 }
-
--- and before it an upload
-abbrev pub in_upload_with_source : Shows
-in_upload_with_source = record { buckets = 3; object = 4 }
+use Rattle.account_calls.specs.Answers.{facts_of}
+use Rattle.account_calls.specs.Shows.{Shows}
 
 abbrev pub shows : Op → Shows
-shows ListBuckets = alone
-shows (CreateBucket bucket acl) = alone
-shows (DeleteBucket bucket) = alone
-shows (HeadBucket bucket) = alone
-shows (GetLocation bucket) = alone
-shows (GetBucketAcl bucket) = alone
-shows (PutBucketAcl bucket acl) = alone
-shows (ListObjects bucket asked) = alone
-shows (PutObject bucket key acl content_type meta body) = alone
-shows (GetObject bucket key range conditions) = alone
-shows (HeadObject bucket key range conditions) = alone
-shows (DeleteObject bucket key) = alone
-shows (GetObjectAcl bucket key) = alone
-shows (ListUploads bucket prefix key_marker id_marker max) = alone
-shows (CreateUpload bucket key acl content_type meta) = alone
-shows (UploadPart bucket key id number body) = alone
-shows (ListParts bucket key id marker max) = alone
-shows (CompleteUpload bucket key id list) = alone
-shows (AbortUpload bucket key id) = alone
-shows (DeleteObjects bucket keys quiet) = alone
-shows (CopyObject bucket key acl from_bucket from_key replaced) = with_source
-shows (CopyPart bucket key id number from_bucket from_key range) = in_upload_with_source
+shows op = (facts_of op).shows
 
 -- by how many calls the reason of a refusal is known; none is told where it takes the names of files that are listed, as which parts
 -- an upload has, or where it is of the store below

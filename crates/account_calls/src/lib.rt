@@ -28,7 +28,7 @@ pub use keys::list_objects;
 pub use laws::{law_answered_fault_free, law_never_unavailable};
 pub use listing::{container_names, list_buckets};
 pub use object::{delete_object, get_object, head_object, put_object};
-pub use plans::{is_many, is_upload, reply_of, taken_text};
+pub use plans::{PlansOf, plans_of, reply_of, taken_text};
 pub use puts::etag_of_put;
 pub use sealed::{object_request, sealed_segments};
 pub use state::{Known, Settled, ask};

@@ -10,6 +10,7 @@ ghost use Rattle.upload_records.specs.Native.{IsSettled, s3_state};
 ghost use Rattle.account_calls.specs.Answers.{pages};
 ghost use Rattle.account_calls.specs.Calls.{always, by_account, Any, Asks, Tells};
 ghost use Rattle.account_calls.specs.Lent.{Stays};
+ghost use Rattle.account_calls.specs.Told.{LeavesAccount};
 ghost use Rattle.account_calls.specs.Listing.{
   ascends,
   created_due,
@@ -49,6 +50,7 @@ fn container_names_page<W: Swift>(store: &mut W, marker: &Bytes) -> Result<List<
         × ((W.history store.new).called ≡ (W.history store.old).called + 1)) }
     ensures asks { Asks (always 1) (W.history store.old) (W.history store.new)
         (MayListAfter marker.now) (TellsOf (TellsPage marker.now)) result }
+    ensures leaves { LeavesAccount (W.history store.old) (W.history store.new) }
 {
     let request = SwiftRequest::ListContainers {
         marker: marker.copy()?,
@@ -103,6 +105,7 @@ fn add_container_names_page<W: Swift>(
         × ((W.history store.new).called ≡ (W.history store.old).called + 1)) }
     ensures asks { Asks (always 1) (W.history store.old) (W.history store.new)
         (MayListAfter marker.now) (TellsOf (TellsNext marker.now names.old names.new)) result }
+    ensures leaves { LeavesAccount (W.history store.old) (W.history store.new) }
 {
     let page = container_names_page(store, marker)?;
     add_container_names(names, page.as_slice())?;
@@ -239,12 +242,13 @@ pub fn list_buckets<W: Swift>(
 }
 
 /// The names of all containers in byte order, page by page, be a completion sealed or not. At most as many calls as there are
-/// pages of names, where the store is observable and its account consistent; and the account stays. Faults as for
-/// [`list_buckets`].
+/// pages of names, where the store is observable and its account consistent; and the account stays, consistent or not. Faults as
+/// for [`list_buckets`].
 pub fn container_names<W: Swift>(alloc: Global, store: &mut W) -> Result<List<Bytes>, PlanFault>
     ensures asks { Asks (by_account (pages (len (present (W.history store.old)))))
         (W.history store.old) (W.history store.new) Any
         (TellsOf TellsNames) result }
+    ensures leaves { LeavesAccount (W.history store.old) (W.history store.new) }
 {
     let mut names = List::new(alloc);
     let mut marker = Bytes::new(alloc);

@@ -1,6 +1,6 @@
 //! Which operations have plans of their own, what a plan takes of its operation, and the reply by the end of the plan.
 ghost use Rattle.std.specs.Prelude.{◌≡◌};
-ghost use Rattle.account_calls.specs.Answers.{is_many, is_upload};
+ghost use Rattle.account_calls.specs.Answers.{facts_of};
 ghost use Rattle.account_calls.specs.Plan.{reply_of};
 
 use crate::PlanFault;
@@ -9,9 +9,20 @@ use s3_machine::{Code, Op, Reply};
 use std::alloc::Global;
 use std::mem::replace;
 
-/// The operation is one on uploads in parts, which have plans of their own.
-pub fn is_upload(op: &Op) -> bool
-    ensures { result ≡ is_upload op.now }
+/// Which crate has the plan of an operation.
+#[derive(Clone, Copy, Debug, PartialEq, Eq)]
+pub enum PlansOf {
+    /// planner: it is one on buckets, lists or single objects.
+    One,
+    /// plan_uploads: it is one on uploads in parts.
+    Uploads,
+    /// many_keys: it is one on several keys, many keys of a bucket or a source and its copy.
+    Many,
+}
+
+/// Which crate has the plan of this operation.
+pub fn plans_of(op: &Op) -> PlansOf
+    ensures { result ≡ (facts_of op.now).plans }
 {
     match op {
         Op::ListBuckets
@@ -26,27 +37,15 @@ pub fn is_upload(op: &Op) -> bool
         | Op::GetObject { .. }
         | Op::HeadObject { .. }
         | Op::DeleteObject { .. }
-        | Op::GetObjectAcl { .. }
-        | Op::DeleteObjects { .. }
-        | Op::CopyObject { .. }
-        | Op::CopyPart { .. } => false,
+        | Op::GetObjectAcl { .. } => PlansOf::One,
         Op::ListUploads { .. }
         | Op::CreateUpload { .. }
         | Op::UploadPart { .. }
         | Op::ListParts { .. }
         | Op::CompleteUpload { .. }
-        | Op::AbortUpload { .. } => true,
+        | Op::AbortUpload { .. } => PlansOf::Uploads,
+        Op::DeleteObjects { .. } | Op::CopyObject { .. } | Op::CopyPart { .. } => PlansOf::Many,
     }
-}
-
-/// The operation is one on several keys, many keys of a bucket or a source and its copy, which has a plan of its own.
-pub fn is_many(op: &Op) -> bool
-    ensures { result ≡ is_many op.now }
-{
-    matches!(
-        op,
-        Op::DeleteObjects { .. } | Op::CopyObject { .. } | Op::CopyPart { .. }
-    )
 }
 
 /// The reply to an operation by the end of its plan.

@@ -49,8 +49,8 @@ module _ (settings : Settings) (state : State) (bucket : List ℕ) (label : Labe
   pub abort_missing : (key text : List ℕ) → S3Step settings state (AbortUpload bucket key text) label (reply.Refused NoSuchBucket) state
   abort_missing key text = steps _ _ 0 tt (in_missing state bucket missing (in_upload state key text (aborts state bucket text)))
 
-  pub uploads_missing : (prefix key_marker id_marker : List ℕ) (max : ℕ) → S3Step settings state (ListUploads bucket prefix key_marker id_marker max) label (reply.Refused NoSuchBucket) state
-  uploads_missing prefix key_marker id_marker max = steps _ _ 0 tt (in_missing state bucket missing (lists_uploads state bucket prefix key_marker id_marker max))
+  pub uploads_missing : (prefix key_marker id_marker : List ℕ) (max : ℕ) (url : Bool) → S3Step settings state (ListUploads bucket prefix key_marker id_marker max url) label (reply.Refused NoSuchBucket) state
+  uploads_missing prefix key_marker id_marker max url = steps _ _ 0 tt (in_missing state bucket missing (lists_uploads state bucket prefix key_marker id_marker max url))
 
   pub create_missing : (key : List ℕ) (acl : Option Acl) (content_type : List ℕ) (meta : List Pair) → S3Step settings state (CreateUpload bucket key acl content_type meta) label (reply.Refused NoSuchBucket) state
   create_missing key acl content_type meta =
@@ -110,12 +110,12 @@ module _ (settings : Settings) (state : State) (bucket : List ℕ) (label : Labe
   pub it : (b : Bucket) × (get state bucket ≡ Some b) × (b.acl ≡ acl)
   it = bucket_by (get state bucket) acl told
 
-  pub uploads_listed : (prefix key_marker id_marker : List ℕ) (max : ℕ) (listed : List UploadItem × Bool) → TellsUploads bucket prefix key_marker id_marker max state listed
-      → S3Step settings state (ListUploads bucket prefix key_marker id_marker max) label (uploads_told bucket prefix key_marker id_marker max listed) state
-  uploads_listed prefix key_marker id_marker max listed tells =
+  pub uploads_listed : (prefix key_marker id_marker : List ℕ) (max : ℕ) (url : Bool) (listed : List UploadItem × Bool) → TellsUploads bucket prefix key_marker id_marker max state listed
+      → S3Step settings state (ListUploads bucket prefix key_marker id_marker max url) label (uploads_told bucket prefix key_marker id_marker max url listed) state
+  uploads_listed prefix key_marker id_marker max url listed tells =
       let same : cut max (uploads_after prefix key_marker id_marker it.0.uploads) ≡ listed = ap (λ o. cut max (uploads_after prefix key_marker id_marker (uploads_in o))) (sym it.1) ∙ sym tells in
-      subst (λ l. S3Step settings state (ListUploads bucket prefix key_marker id_marker max) label (uploads_told bucket prefix key_marker id_marker max l) state) same
-      (steps _ _ 0 tt (in_found state bucket it.0 it.1 (lists_uploads state bucket prefix key_marker id_marker max)))
+      subst (λ l. S3Step settings state (ListUploads bucket prefix key_marker id_marker max url) label (uploads_told bucket prefix key_marker id_marker max url l) state) same
+      (steps _ _ 0 tt (in_found state bucket it.0 it.1 (lists_uploads state bucket prefix key_marker id_marker max url)))
 
   pub create_other : (key : List ℕ) (given : Option Acl) (content_type : List ℕ) (meta : List Pair) → is_other_acl given acl ≡ true
       → S3Step settings state (CreateUpload bucket key given content_type meta) label (reply.Refused NotImplemented) state
@@ -132,8 +132,8 @@ module _ (settings : Settings) (state : State) (bucket : List ℕ) (label : Labe
 pub parts_are_own : (bucket key : List ℕ) (id marker max : ℕ) (told : List PartItem × Bool) → All IsShownPart told.0 → IsOwnReply (parts_told bucket key id marker max told)
 parts_are_own bucket key id marker max told dated = record { showable = dated; no_memory = λ e. cc; no_failure = λ e. cc; no_inconsistency = λ e. cc }
 
-pub uploads_are_own : (bucket prefix key_marker id_marker : List ℕ) (max : ℕ) (told : List UploadItem × Bool) → All IsShownUpload told.0 → IsOwnReply (uploads_told bucket prefix key_marker id_marker max told)
-uploads_are_own bucket prefix key_marker id_marker max told dated = record { showable = dated; no_memory = λ e. cc; no_failure = λ e. cc; no_inconsistency = λ e. cc }
+pub uploads_are_own : (bucket prefix key_marker id_marker : List ℕ) (max : ℕ) (url : Bool) (told : List UploadItem × Bool) → All IsShownUpload told.0 → IsOwnReply (uploads_told bucket prefix key_marker id_marker max url told)
+uploads_are_own bucket prefix key_marker id_marker max url told dated = record { showable = dated; no_memory = λ e. cc; no_failure = λ e. cc; no_inconsistency = λ e. cc }
 
 -- ---- what the calls ask
 

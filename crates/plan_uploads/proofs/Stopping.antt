@@ -12,7 +12,8 @@ use Rattle.upload_texts.specs.declared.record.Record.TheVariants.{Open, Done}
 use Rattle.account_calls.specs.declared.fault.PlanFault.{PlanFault}
 use Rattle.account_calls.specs.declared.fault.PlanFault.TheVariants.{Failed, Memory, Inconsistent}
 use Rattle.account_calls.specs.Calls.{Asks, Bound}
-use Rattle.account_calls.specs.Refusals.{Unrefused, alone, is_refusal}
+use Rattle.account_calls.specs.Refusals.{Unrefused, is_refusal}
+use Rattle.account_calls.specs.Shows.{alone}
 use Rattle.account_calls.proofs.lemmas.Refusals.{no_refusal}
 use Rattle.plan_uploads.specs.Completing.{ShownByParts, StopsAtBucket, end_complete_upload_sealed, lacks_bucket, to_complete_by}
 use Rattle.plan_uploads.specs.Plans.{gone_behind}

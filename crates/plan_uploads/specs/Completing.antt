@@ -34,7 +34,8 @@ use Rattle.account_calls.specs.Answers.{may_be_sealed}
 use Rattle.account_calls.specs.Calls.{always, Becomes, GivenOf, Grows, LacksBucket, Met, Writes}
 use Rattle.account_calls.specs.Fault.{CausesFault}
 use Rattle.account_calls.specs.Plan.{reply_of}
-use Rattle.account_calls.specs.Refusals.{alone, shown_by}
+use Rattle.account_calls.specs.Refusals.{shown_by}
+use Rattle.account_calls.specs.Shows.{alone}
 use Rattle.account_calls.specs.Stutters.{LastFailed}
 use Rattle.account_calls.specs.declared.fault.PlanFault.{PlanFault}
 use Rattle.account_calls.specs.declared.fault.PlanFault.TheVariants.{Failed, Memory, Inconsistent}
@@ -143,7 +144,7 @@ MaySeal s tree = SealedIn tree s
 
 -- the PUT of its text, which has no more bytes
 abbrev pub most_sealed_text : ℕ
-most_sealed_text = 2150000
+most_sealed_text = 2170000
 
 abbrev pub put_sealed_text : List ℕ → SwiftRequest
 put_sealed_text text = PutObject gateway_name sealed_name (codes "application/json") [] text

@@ -46,8 +46,8 @@ abbrev pub parts_told : List ℕ → List ℕ → ℕ → ℕ → ℕ → List P
 parts_told bucket key id marker max told = reply.Parts bucket key id marker max told.0 told.1
 
 -- the reply to ListUploads, by what its calls told
-abbrev pub uploads_told : List ℕ → List ℕ → List ℕ → List ℕ → ℕ → List UploadItem × Bool → Reply
-uploads_told bucket prefix key_marker id_marker max told = reply.Uploads bucket prefix key_marker id_marker max told.0 told.1
+abbrev pub uploads_told : List ℕ → List ℕ → List ℕ → List ℕ → ℕ → Bool → List UploadItem × Bool → Reply
+uploads_told bucket prefix key_marker id_marker max url told = reply.Uploads bucket prefix key_marker id_marker max url told.0 told.1
 
 -- the end of AbortUpload behind the call that commits. That the store failed there is no failure of the operation
 abbrev pub gone_behind : Result (Unit {0}) PlanFault → Result Reply PlanFault

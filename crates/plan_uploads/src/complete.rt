@@ -13,7 +13,8 @@ ghost use Rattle.upload_records.specs.Native.{s3_state, sealed_sub_manifests, su
 ghost use Rattle.account_calls.specs.Answers.{completion_calls, named_by, pages};
 ghost use Rattle.account_calls.specs.Calls.{always, by_account, Any, Given, GivenOf};
 ghost use Rattle.account_calls.specs.Lent.{Stays};
-ghost use Rattle.account_calls.specs.Refusals.{alone, Stops, Unrefused};
+ghost use Rattle.account_calls.specs.Refusals.{Stops, Unrefused};
+ghost use Rattle.account_calls.specs.Shows.{alone};
 ghost use Rattle.account_calls.specs.Plan.{Plans};
 ghost use Rattle.account_calls.specs.Puts.{EnsuresIfDone};
 ghost use Rattle.plan_uploads.specs.Completing.{Ascend, HasParts, IsOpenAs, LeavesUnsureOnly, MayComplete, ShownByParts, StandsAs, StandsCompleted, ToldOrStands, answered_by, by_number, completion_of, end_in, known_in, listed_parts};

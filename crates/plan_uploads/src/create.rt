@@ -10,7 +10,8 @@ ghost use Rattle.account_calls.specs.Answers.{opens_in, records_of, segments_of}
 ghost use Rattle.account_calls.specs.Calls.{always, by_account, Any, Given, GivenOf, TellsBucket};
 ghost use Rattle.account_calls.specs.Lent.{Stays};
 ghost use Rattle.account_calls.specs.declared.state.Known.TheVariants as known;
-ghost use Rattle.account_calls.specs.Refusals.{alone, Stops, Unrefused};
+ghost use Rattle.account_calls.specs.Refusals.{Stops, Unrefused};
+ghost use Rattle.account_calls.specs.Shows.{alone};
 ghost use Rattle.account_calls.specs.Plan.{ended, Plans};
 ghost use Rattle.account_calls.specs.Puts.{EnsuresIfDone};
 ghost use Rattle.plan_uploads.specs.Plans.{LeavesBeside, MayStart, StandsStarted};

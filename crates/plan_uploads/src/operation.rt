@@ -216,6 +216,7 @@ fn plan_listing<W: Swift>(
             key_marker,
             id_marker,
             max,
+            url,
         } => plan_list_uploads(
             alloc,
             state,
@@ -224,6 +225,7 @@ fn plan_listing<W: Swift>(
             taken_text(alloc, key_marker),
             taken_text(alloc, id_marker),
             *max,
+            *url,
         ),
         Op::ListParts {
             bucket,

@@ -12,7 +12,8 @@ ghost use Rattle.account_calls.specs.Answers.{named_by, pages, records_of};
 ghost use Rattle.account_calls.specs.Calls.{by_account, Any, Given, GivenOf, TellsBucket};
 ghost use Rattle.account_calls.specs.Lent.{Stays};
 ghost use Rattle.account_calls.specs.declared.state.Known.TheVariants as known;
-ghost use Rattle.account_calls.specs.Refusals.{alone, Stops, Unrefused};
+ghost use Rattle.account_calls.specs.Refusals.{Stops, Unrefused};
+ghost use Rattle.account_calls.specs.Shows.{alone};
 ghost use Rattle.account_calls.specs.Plan.{Plans};
 ghost use Rattle.upload_calls.specs.Found.{IsOpenUpload};
 ghost use Rattle.plan_uploads.specs.Plans.{parts_told, uploads_told};
@@ -113,6 +114,7 @@ pub(crate) fn plan_list_uploads<W: Swift>(
     key_marker: Bytes,
     id_marker: Bytes,
     max: u32,
+    url: bool,
 ) -> Result<Reply, PlanFault>
     requires name { is_bucket bucket ≡ true }
     requires proper { IsProperUploads prefix key_marker id_marker max }
@@ -122,13 +124,15 @@ pub(crate) fn plan_list_uploads<W: Swift>(
         (records_of (present (W.history state.old.store.now)) bucket) + records_of
         (present (W.history state.old.store.now)) bucket)) (W.history state.old.store.now)
         (W.history state.new.store.now) state.old.settings.now (Given Any)
-        (ListUploads bucket prefix key_marker id_marker max) label known.Settled result }
+        (ListUploads bucket prefix key_marker id_marker max url) label known.Settled result }
     ensures stops { Stops alone 0 (W.history state.old.store.now) (W.history state.new.store.now) result }
 {
     let Some(_) = head_bucket(state, &bucket)? else {
         return Ok(Reply::Refused(Code::NoSuchBucket));
     };
-    plan_list_uploads_within(alloc, state, bucket, prefix, key_marker, id_marker, max)
+    plan_list_uploads_within(
+        alloc, state, bucket, prefix, key_marker, id_marker, max, url,
+    )
 }
 
 /// The rest of ListUploads, in a bucket that is there, whatever list it has.
@@ -140,6 +144,7 @@ fn plan_list_uploads_within<W: Swift>(
     key_marker: Bytes,
     id_marker: Bytes,
     max: u32,
+    url: bool,
 ) -> Result<Reply, PlanFault>
     requires name { is_bucket bucket ≡ true }
     requires proper { IsProperUploads prefix key_marker id_marker max }
@@ -150,11 +155,11 @@ fn plan_list_uploads_within<W: Swift>(
         (present (W.history state.old.store.now)) bucket)) (W.history state.old.store.now)
         (W.history state.new.store.now) state.old.settings.now
         (Given (λ s. TellsBucket bucket s (Some acl)))
-        (ListUploads bucket prefix key_marker id_marker max) label known.Settled result }
+        (ListUploads bucket prefix key_marker id_marker max url) label known.Settled result }
     ensures unrefused { Unrefused result }
 {
     let listed = list_uploads(alloc, state, &bucket, &prefix, &key_marker, &id_marker, max)?;
-    Ok(end_list_uploads_plan(bucket, prefix, key_marker, id_marker, max, listed))
+    Ok(end_list_uploads_plan(bucket, prefix, key_marker, id_marker, max, url, listed))
 }
 
 /// The reply of the uploads, and whether one is left over.
@@ -164,9 +169,10 @@ fn end_list_uploads_plan(
     key_marker: Bytes,
     id_marker: Bytes,
     max: u32,
+    url: bool,
     listed: (List<UploadItem>, bool),
 ) -> Reply
-    ensures { result ≡ uploads_told bucket prefix key_marker id_marker max listed }
+    ensures { result ≡ uploads_told bucket prefix key_marker id_marker max url listed }
 {
     let (items, truncated) = listed;
     Reply::Uploads {
@@ -175,6 +181,7 @@ fn end_list_uploads_plan(
         key_marker,
         id_marker,
         max,
+        url,
         items,
         truncated,
     }

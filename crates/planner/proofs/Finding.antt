@@ -36,7 +36,8 @@ use Rattle.account_calls.specs.Fault.{CausesFault}
 use Rattle.account_calls.specs.Interpret.{IsShownHead}
 use Rattle.account_calls.specs.Plan.{IsOwnReply, Plans, Answered}
 use Rattle.account_calls.specs.Puts.{IfDone}
-use Rattle.account_calls.specs.Refusals.{alone, shows, Stops}
+use Rattle.account_calls.specs.Refusals.{shows, Stops}
+use Rattle.account_calls.specs.Shows.{alone}
 use Rattle.account_calls.specs.Told.{Told}
 use Rattle.account_calls.proofs.lemmas.Causes.{due_cause}
 use Rattle.account_calls.proofs.lemmas.Ends.{IsOneMore, IsWider, answers, answered_by, goes_on, met_settled, told_nothing}

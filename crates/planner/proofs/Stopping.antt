@@ -11,7 +11,8 @@ use Rattle.swift_calls.specs.Account.{SwiftAccount}
 use Rattle.swift_calls.specs.History.{History}
 use Rattle.account_calls.specs.declared.fault.PlanFault.{PlanFault}
 use Rattle.account_calls.specs.Calls.{Asks, always}
-use Rattle.account_calls.specs.Refusals.{alone, Stops}
+use Rattle.account_calls.specs.Refusals.{Stops}
+use Rattle.account_calls.specs.Shows.{alone}
 use Rattle.account_calls.proofs.lemmas.Refusals.{stops_behind}
 use Rattle.s3_machine.specs.Step.{read_by}
 use Rattle.planner.specs.Objects.{headed_reply}

@@ -25,7 +25,8 @@ use Rattle.account_calls.specs.declared.state.Known.TheVariants as known
 use Rattle.account_calls.specs.Answers.{most_calls, pieces}
 use Rattle.account_calls.specs.Calls.{Bound, amount, Any, Given, HasObject, IsStoredAs}
 use Rattle.account_calls.specs.Plan.{reply_of, Plans, Answered}
-use Rattle.account_calls.specs.Refusals.{alone, Stops}
+use Rattle.account_calls.specs.Refusals.{Stops}
+use Rattle.account_calls.specs.Shows.{alone}
 use Rattle.account_calls.specs.Told.{Told}
 use Rattle.planner.specs.declared.reading.Found.{Found}
 use Rattle.planner.specs.declared.reading.Reading.{Reading}

@@ -7,7 +7,8 @@ ghost use Rattle.s3_machine.specs.declared.operation.Op.TheVariants.{GetBucketAc
 ghost use Rattle.account_calls.specs.Calls.{always, Any, Given, TellsBucket};
 ghost use Rattle.account_calls.specs.Lent.{Stays};
 ghost use Rattle.account_calls.specs.declared.state.Known.TheVariants as known;
-ghost use Rattle.account_calls.specs.Refusals.{alone, Stops};
+ghost use Rattle.account_calls.specs.Refusals.{Stops};
+ghost use Rattle.account_calls.specs.Shows.{alone};
 ghost use Rattle.account_calls.specs.Plan.{Plans, ended};
 ghost use Rattle.planner.specs.Buckets.{set_reply};
 

@@ -13,7 +13,8 @@ ghost use Rattle.account_calls.specs.declared.state.Known.TheVariants as known;
 ghost use Rattle.account_calls.specs.Purging.{MayMake, purge_calls};
 ghost use Rattle.upload_records.specs.Layout.{segments_name, uploads_name};
 ghost use Rattle.account_calls.specs.Plan.{Plans, ended};
-ghost use Rattle.account_calls.specs.Refusals.{alone, Stops, Unrefused};
+ghost use Rattle.account_calls.specs.Refusals.{Stops, Unrefused};
+ghost use Rattle.account_calls.specs.Shows.{alone};
 ghost use Rattle.planner.specs.Buckets.{dropped_reply, emptying, HasBareUploads, HasSides, HasUploads};
 
 use account_calls::{

@@ -8,7 +8,8 @@ ghost use Rattle.account_calls.specs.Answers.{pages_listed};
 ghost use Rattle.account_calls.specs.Calls.{by_account, Any, Given, TellsBucket};
 ghost use Rattle.account_calls.specs.Lent.{Stays};
 ghost use Rattle.account_calls.specs.declared.state.Known.TheVariants as known;
-ghost use Rattle.account_calls.specs.Refusals.{alone, Stops};
+ghost use Rattle.account_calls.specs.Refusals.{Stops};
+ghost use Rattle.account_calls.specs.Shows.{alone};
 ghost use Rattle.account_calls.specs.Plan.{Plans};
 ghost use Rattle.planner.specs.Listing.{objects_reply};
 

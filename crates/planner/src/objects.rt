@@ -12,7 +12,8 @@ ghost use Rattle.account_calls.specs.Interpret.{IsShownHead, put_of};
 ghost use Rattle.account_calls.specs.Lent.{Stays};
 ghost use Rattle.account_calls.specs.declared.state.Known.TheVariants as known;
 ghost use Rattle.account_calls.specs.Plan.{ended, Plans, IsOwnReply};
-ghost use Rattle.account_calls.specs.Refusals.{alone, Stops, Unrefused};
+ghost use Rattle.account_calls.specs.Refusals.{Stops, Unrefused};
+ghost use Rattle.account_calls.specs.Shows.{alone};
 ghost use Rattle.account_calls.specs.Puts.{EnsuresIfDone, StandsIn};
 ghost use Rattle.planner.specs.Objects.{headed_reply};
 

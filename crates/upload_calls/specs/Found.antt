@@ -31,6 +31,7 @@ pub record LacksUpload (bucket key text : List ℕ) (tree : SwiftAccount) : Type
   pub none : (content_type : List ℕ) (meta : List Pair) (started : ℕ)
       → record_at (files tree (uploads_name bucket)) text ≡ Some (Open key content_type meta started) → ⊥
 
+-- what was found of an upload is so: its bucket is missing, none of the key is open under the text, or this one is
 abbrev pub TellsUpload : List ℕ → List ℕ → List ℕ → SwiftAccount → Found → Type 0
 TellsUpload bucket key text tree found.NoBucket = LacksBucket bucket (s3_state tree)
 TellsUpload bucket key text tree found.NoUpload = LacksUpload bucket key text tree

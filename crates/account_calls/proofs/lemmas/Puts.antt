@@ -131,7 +131,7 @@ module _ {P Q : Type 0} (gives : P → Q) where
   if_done (replies.Location region) has = gives has
   if_done (replies.AclOf acl) has = gives has
   if_done (replies.Objects bucket asked items truncated) has = gives has
-  if_done (replies.Uploads bucket prefix key_marker id_marker max items truncated) has = gives has
+  if_done (replies.Uploads bucket prefix key_marker id_marker max url items truncated) has = gives has
   if_done (replies.Stored etag) has = gives has
   if_done (replies.Object head from length partial body) has = gives has
   if_done (replies.Started bucket key id) has = gives has
@@ -155,7 +155,7 @@ done_so {P = P} reply has = if_done {P = Unit {0}} (λ any. has) reply (any_done
     any_done (replies.Location region) = tt
     any_done (replies.AclOf acl) = tt
     any_done (replies.Objects bucket asked items truncated) = tt
-    any_done (replies.Uploads bucket prefix key_marker id_marker max items truncated) = tt
+    any_done (replies.Uploads bucket prefix key_marker id_marker max url items truncated) = tt
     any_done (replies.Stored etag) = tt
     any_done (replies.Object head from length partial body) = tt
     any_done (replies.Started bucket key id) = tt

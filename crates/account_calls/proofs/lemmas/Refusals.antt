@@ -12,7 +12,8 @@ use Rattle.account_calls.specs.declared.fault.PlanFault.{PlanFault}
 use Rattle.account_calls.specs.declared.fault.PlanFault.TheVariants.{Failed, Memory, Inconsistent}
 use Rattle.account_calls.specs.Calls.{Asks, always}
 use Rattle.account_calls.specs.Plan.{ended, reply_of}
-use Rattle.account_calls.specs.Refusals.{IsWithinShown, Shows, Stops, Unrefused, code_shown_by, is_refusal, most_refused, shown_by, shows}
+use Rattle.account_calls.specs.Refusals.{IsWithinShown, Stops, Unrefused, code_shown_by, is_refusal, most_refused, shown_by, shows}
+use Rattle.account_calls.specs.Shows.{Shows}
 
 -- more may be shown
 if_some : (shown : Option ℕ) {P Q : ℕ → Type 0} → ((n : ℕ) → P n → Q n) → IfSome shown P → IfSome shown Q
@@ -31,7 +32,7 @@ no_refusal s (replies.Made bucket) is = refl
 no_refusal s (replies.Location region) is = refl
 no_refusal s (replies.AclOf acl) is = refl
 no_refusal s (replies.Objects bucket asked items truncated) is = refl
-no_refusal s (replies.Uploads bucket prefix key_marker id_marker max items truncated) is = refl
+no_refusal s (replies.Uploads bucket prefix key_marker id_marker max url items truncated) is = refl
 no_refusal s (replies.Stored etag) is = refl
 no_refusal s (replies.Object head from length partial body) is = refl
 no_refusal s (replies.Started bucket key id) is = refl
@@ -112,7 +113,7 @@ late s buckets object (replies.Made bucket) p q within = tt
 late s buckets object (replies.Location region) p q within = tt
 late s buckets object (replies.AclOf acl) p q within = tt
 late s buckets object (replies.Objects bucket asked items truncated) p q within = tt
-late s buckets object (replies.Uploads bucket prefix key_marker id_marker max items truncated) p q within = tt
+late s buckets object (replies.Uploads bucket prefix key_marker id_marker max url items truncated) p q within = tt
 late s buckets object (replies.Stored etag) p q within = tt
 late s buckets object (replies.Object head from length partial body) p q within = tt
 late s buckets object (replies.Started bucket key id) p q within = tt

@@ -1,5 +1,6 @@
 use Rattle.std.proofs.Common.{◌-◌}
 use Rattle.swift_calls.specs.History.{budget}
+use Rattle.account_calls.specs.Told.{LeavesAccount}
 use Rattle.account_calls.proofs.lemmas.Walk.{Walked}
 use Rattle.account_calls.proofs.listing.container_names.Given as goal
 
@@ -8,3 +9,4 @@ decreases-pages g l = budget - (g.W.Swift.history l.store).called
 
 abbrev pub invariant-pages : goal.invariant-pages
 invariant-pages g l = Walked (g.W.Swift.history l.initial.store) (g.W.Swift.history l.store) l.marker l.names
+    × LeavesAccount (g.W.Swift.history l.initial.store) (g.W.Swift.history l.store)

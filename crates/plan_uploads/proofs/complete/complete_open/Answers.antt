@@ -12,7 +12,8 @@ use Rattle.plan_uploads.proofs.Completions.{has_parts, opened_parts}
 use Rattle.plan_uploads.specs.declared.complete.Completing.{Completing}
 use Rattle.plan_uploads.proofs.CompletionEnds.{refused_ensures}
 use Rattle.account_calls.proofs.lemmas.Refusals.{stops_unshown}
-use Rattle.account_calls.specs.Refusals.{alone, Stops}
+use Rattle.account_calls.specs.Refusals.{Stops}
+use Rattle.account_calls.specs.Shows.{alone}
 use Rattle.plan_uploads.proofs.complete.complete_open.Goals as goal
 
 pub returns-then-not-rises-clause-plans : goal.returns-then-not-rises-clause-plans

@@ -11,7 +11,8 @@ use Rattle.plan_uploads.specs.declared.complete.Completing.{Completing}
 use Rattle.plan_uploads.proofs.CompletionEnds.{again_ensures, asked_out_of_memory, ends_answered, ends_with_fault, refused_ensures}
 use Rattle.plan_uploads.proofs.FoundCompletion.{complete_lost, complete_missing, completed_again, named_alike, two_calls, unkept_calls}
 use Rattle.account_calls.proofs.lemmas.Refusals.{stops_behind}
-use Rattle.account_calls.specs.Refusals.{alone, Stops}
+use Rattle.account_calls.specs.Refusals.{Stops}
+use Rattle.account_calls.specs.Shows.{alone}
 use Rattle.std.specs.Prelude.{◌+◌, length}
 use Rattle.swift_calls.specs.History.{present}
 use Rattle.upload_records.specs.Native.{s3_state, sub_manifests}

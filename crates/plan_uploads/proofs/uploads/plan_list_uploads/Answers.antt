@@ -14,7 +14,7 @@ returns-in_err-head_bucket-clause-plans g c = λ label. told_nothing (omega arit
 
 pub returns-in_default-clause-plans : goal.returns-in_default-clause-plans
 returns-in_default-clause-plans g c = λ label.
-    answers (omega arith) None c.in_default.is _ c.in_ok-head_bucket.ensures.asks (search rules) (λ tree any told. uploads_missing _ _ _ _ (lacks_of _ _ told) _ _ _ _)
+    answers (omega arith) None c.in_default.is _ c.in_ok-head_bucket.ensures.asks (search rules) (λ tree any told. uploads_missing _ _ _ _ (lacks_of _ _ told) _ _ _ _ _)
 
 pub returns-clause-plans : goal.returns-clause-plans
 returns-clause-plans g c = λ label.

@@ -19,11 +19,11 @@ pub returns-clause-plans : goal.returns-clause-plans
 returns-clause-plans g c = λ acl label.
     let most = by_account (pages (records_of (present (g.W.Swift.history c.args.state.now.store.now)) c.args.bucket) + records_of (present (g.W.Swift.history c.args.state.now.store.now)) c.args.bucket) in
     calls_end most (as_wide most) (met_there _ acl c.requires.name) c.in_ok-listed.listed refl _ c.in_ok-listed.ensures.asks
-    (rw c.end_list_uploads_plan.ensures (uploads_are_own c.args.bucket c.args.prefix c.args.key_marker c.args.id_marker c.args.max c.in_ok-listed.listed c.in_ok-listed.ensures.dated)) (search rules)
+    (rw c.end_list_uploads_plan.ensures (uploads_are_own c.args.bucket c.args.prefix c.args.key_marker c.args.id_marker c.args.max c.args.url c.in_ok-listed.listed c.in_ok-listed.ensures.dated)) (search rules)
     (λ tree there told. (
-      uploads_told c.args.bucket c.args.prefix c.args.key_marker c.args.id_marker c.args.max c.in_ok-listed.listed,
+      uploads_told c.args.bucket c.args.prefix c.args.key_marker c.args.id_marker c.args.max c.args.url c.in_ok-listed.listed,
       ap Ok c.end_list_uploads_plan.ensures,
-      uploads_listed _ _ _ _ acl there c.args.prefix c.args.key_marker c.args.id_marker c.args.max c.in_ok-listed.listed told,
+      uploads_listed _ _ _ _ acl there c.args.prefix c.args.key_marker c.args.id_marker c.args.max c.args.url c.in_ok-listed.listed told,
     ))
 
 pub returns-clause-unrefused : goal.returns-clause-unrefused

@@ -4,7 +4,8 @@ use Rattle.account_calls.proofs.lemmas.Ends.{needs_none, told_nothing, answers, 
 use Rattle.planner.specs.Objects.{headed_reply}
 use Rattle.planner.proofs.Readings.{head_refused, head_none, head_there}
 use Rattle.planner.proofs.Stopping.{headed_stops}
-use Rattle.account_calls.specs.Refusals.{alone, Stops}
+use Rattle.account_calls.specs.Refusals.{Stops}
+use Rattle.account_calls.specs.Shows.{alone}
 use Rattle.planner.proofs.objects.plan_head_object_within.Goals as goal
 
 pub returns-then-not-may_read-clause-plans : goal.returns-then-not-may_read-clause-plans
