@@ -10,8 +10,8 @@ use Rattle.http_service.specs.Answering.{start_of}
 use Rattle.http_service.specs.Running.{run_cursor, NextCursor}
 use Rattle.http_service.proofs.lemmas.Within.{Within, run_map}
 
-abbrev pub Served : {State Note : Type 0} → (State → ℕ) → List ℕ → AnswerRelation State Note → RunCursor State → RunCursor State → Type 0
-Served {Note = Note} number memory R begin present = (notes : List Note) × RunTrace number memory R begin notes present
+abbrev pub Served : {State Note : Type 0} → (State → ℕ) → ℕ → List ℕ → AnswerRelation State Note → RunCursor State → RunCursor State → Type 0
+Served {Note = Note} number limit memory R begin present = (notes : List Note) × RunTrace number limit memory R begin notes present
 
 -- which were faulty, after one connection
 faulty_then : (failed : Bool) (faulty faulty' faulty'' : List Bool) (begun begun'' : ℕ) → faulty' ≡ faulty ++ false ∷ [] → begun'' ≡ begun → faulty'' ≡ (if failed then slice_set faulty' (begun - 1) true else faulty')
@@ -19,26 +19,26 @@ faulty_then : (failed : Bool) (faulty faulty' faulty'' : List Bool) (begun begun
 faulty_then true faulty faulty' faulty'' begun begun'' began same is = is ∙ (λ i. slice_set (began i) (sym same i - 1) true)
 faulty_then false faulty faulty' faulty'' begun begun'' began same is = is ∙ began
 
-module _ {State Note : Type 0} (number : State → ℕ) (memory : List ℕ) where
+module _ {State Note : Type 0} (number : State → ℕ) (limit : ℕ) (memory : List ℕ) where
   -- they are so of a service that went on
-  pub served_on : {R R' : AnswerRelation State Note} → Within R R' → (begin present : RunCursor State) → Served number memory R begin present → Served number memory R' begin present
+  pub served_on : {R R' : AnswerRelation State Note} → Within R R' → (begin present : RunCursor State) → Served number limit memory R begin present → Served number limit memory R' begin present
   served_on within begin present served = (served.0, run_map within served.1)
 
   -- one connection more
-  pub served_more : (R : AnswerRelation State Note) (begin present next : RunCursor State) → Served number memory R begin present → NextCursor number memory R None present next → Served number memory R begin next
+  pub served_more : (R : AnswerRelation State Note) (begin present next : RunCursor State) → Served number limit memory R begin present → NextCursor number limit memory R None present next → Served number limit memory R begin next
   served_more R begin present next served one = (served.0 ++ one.0, more begin present next served.0 one.0 served.1 one.1)
 
   -- nothing more
-  pub served_end : (R : AnswerRelation State Note) (begin present next : RunCursor State) (stopped : Stopped) → Served number memory R begin present → NextCursor number memory R (Some stopped) present next → Served number memory R begin next
-  served_end R begin present next stopped served same = (served.0, subst (RunTrace number memory R begin served.0) (sym same) served.1)
+  pub served_end : (R : AnswerRelation State Note) (begin present next : RunCursor State) (stopped : Stopped) → Served number limit memory R begin present → NextCursor number limit memory R (Some stopped) present next → Served number limit memory R begin next
+  served_end R begin present next stopped served same = (served.0, subst (RunTrace number limit memory R begin served.0) (sym same) served.1)
 
   -- a connection that began was served
   pub next_served : (R : AnswerRelation State Note) (old middle new : Transcript) (state state' : State) (ended : Ended)
       → Begins true old middle → TranscriptServes (is_failed_end ended) middle new
-      → ((notes : List Note) × ConnectionTrace number memory R middle.begun ended (start_of middle state) notes (progress state' new.sent))
-      → NextCursor number memory R None (run_cursor old state) (run_cursor new state')
+      → ((notes : List Note) × ConnectionTrace number limit memory R middle.begun ended (start_of middle state) notes (progress state' new.sent))
+      → NextCursor number limit memory R None (run_cursor old state) (run_cursor new state')
   next_served R old middle new state state' ended begins serves trace =
-      let P : (ℕ × List Piece) → Type 0 = λ x. ConnectionTrace number memory R x.0 ended (cursor middle.rest 0 (progress state x.1)) trace.0 (progress state' new.sent) in (
+      let P : (ℕ × List Piece) → Type 0 = λ x. ConnectionTrace number limit memory R x.0 ended (cursor middle.rest 0 (progress state x.1)) trace.0 (progress state' new.sent) in (
         trace.0,
         record {
           bytes = middle.rest;

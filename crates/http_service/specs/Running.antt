@@ -12,9 +12,9 @@ abbrev pub run_cursor : {State : Type 0} → Transcript → State → RunCursor 
 run_cursor line state = record { waiting = line.waiting; begun = line.begun; faulty = line.faulty; progress = progress state line.sent }
 
 -- the next connection was served, or nothing came between
-abbrev pub NextCursor : {State Note : Type 0} → (State → ℕ) → List ℕ → AnswerRelation State Note → Option Stopped → RunCursor State → RunCursor State → Type 0
-NextCursor {Note = Note} number memory R None old new = (notes : List Note) × ServesNext number memory R old notes new
-NextCursor {Note = Note} number memory R (Some stopped) old new = new ≡ old
+abbrev pub NextCursor : {State Note : Type 0} → (State → ℕ) → ℕ → List ℕ → AnswerRelation State Note → Option Stopped → RunCursor State → RunCursor State → Type 0
+NextCursor {Note = Note} number limit memory R None old new = (notes : List Note) × ServesNext number limit memory R old notes new
+NextCursor {Note = Note} number limit memory R (Some stopped) old new = new ≡ old
 
 -- no connection is left, or as many as were asked for began
 abbrev pub IsServedOut : Option ℕ → Transcript → Transcript → Type 0

@@ -1,6 +1,6 @@
 -- The connections of a run, from the bytes that are left of each to how it ends. The definitions take as parameters the number
--- of calls that the service's store had counted, by its state; the bytes that are sent where memory runs out; and what is said
--- of an answer. Source: RFC 9112 section 9 and this profile.
+-- of calls that the service's store had counted, by its state; the most bytes that a body may have; the bytes that are sent where
+-- memory runs out; and what is said of an answer. Source: RFC 9112 section 9 and this profile.
 use Rattle.std.specs.Prelude.{◌≡◌, ◌⊎◌, ℕ, ◌+◌, ◌-◌, Bool, true, false, List, [], ◌∷◌, ◌++◌, drop, take, slice_set, if◌then◌else◌, Option, None, Some}
 use Rattle.gate_base.specs.declared.outside.Piece.{Piece}
 use Rattle.http_wire.specs.declared.message.Message.{Message}
@@ -53,63 +53,63 @@ abbrev pub cursor : {State : Type 0} → List ℕ → ℕ → Progress State →
 cursor rest place so_far = record { rest = rest; place = place; progress = so_far }
 
 -- what stands first was received, and what is left behind it
-pub data Receives (all : List ℕ) (at : ℕ) (received : Received) (rest : List ℕ) (place : ℕ) : Type 0 where
-  read : (message : Message) (size : ℕ) → BeginsWith all (asks message size) → received ≡ what.Message message
-      → rest ≡ drop size all → place ≡ place_after at size → Receives all at received rest place
-  rejected : (kind : Kind) (head : Bool) → BeginsWith all (refused kind head) → received ≡ what.Refused kind at head
-      → rest ≡ all → place ≡ at → Receives all at received rest place
+pub data Receives (limit : ℕ) (all : List ℕ) (at : ℕ) (received : Received) (rest : List ℕ) (place : ℕ) : Type 0 where
+  read : (message : Message) (size : ℕ) → BeginsWith limit all (asks message size) → received ≡ what.Message message
+      → rest ≡ drop size all → place ≡ place_after at size → Receives limit all at received rest place
+  rejected : (kind : Kind) (head : Bool) → BeginsWith limit all (refused kind head) → received ≡ what.Refused kind at head
+      → rest ≡ all → place ≡ at → Receives limit all at received rest place
 
 -- first bytes of these were sent: none, or one piece with some or all
 abbrev pub CutsPiece : ℕ → ℕ → List ℕ → List Piece → List Piece → Type 0
 CutsPiece connection at bytes old new = (new ≡ old) ⊎ ((n : ℕ) × (new ≡ old ++ piece_on connection at (take n bytes) ∷ []))
 
 -- the next request was answered
-pub record Serves {State Note : Type 0} (number : State → ℕ) (R : AnswerRelation State Note) (connection : ℕ) (end : Option Ended)
+pub record Serves {State Note : Type 0} (number : State → ℕ) (limit : ℕ) (R : AnswerRelation State Note) (connection : ℕ) (end : Option Ended)
     (old : Cursor State) (note : Note) (new : Cursor State) : Type 0 where
   pub received : Received
   -- the pieces sent once it was read: the interim line, before any call for it, exactly where it is owed
   pub heard : List Piece
-  pub receives : Receives old.rest old.place received new.rest new.place
-  pub owed : SendsInterim (OwesInterim old.rest) connection (number old.progress.state) old.progress.sent heard
+  pub receives : Receives limit old.rest old.place received new.rest new.place
+  pub owed : SendsInterim (OwesInterim limit old.rest) connection (number old.progress.state) old.progress.sent heard
   pub answers : R connection received old.progress.state heard note end new.progress.state new.progress.sent
 
 -- any number of requests, none of which ended the connection, with what is noted of each
-pub data Exchanges {State Note : Type 0} (number : State → ℕ) (R : AnswerRelation State Note) (connection : ℕ)
+pub data Exchanges {State Note : Type 0} (number : State → ℕ) (limit : ℕ) (R : AnswerRelation State Note) (connection : ℕ)
     : Cursor State → List Note → Cursor State → Type 0 where
-  none : (cursor : Cursor State) → Exchanges number R connection cursor [] cursor
-  more : (old middle new : Cursor State) (notes : List Note) (note : Note) → Exchanges number R connection old notes middle
-      → Serves number R connection None middle note new → Exchanges number R connection old (notes ++ note ∷ []) new
+  none : (cursor : Cursor State) → Exchanges number limit R connection cursor [] cursor
+  more : (old middle new : Cursor State) (notes : List Note) (note : Note) → Exchanges number limit R connection old notes middle
+      → Serves number limit R connection None middle note new → Exchanges number limit R connection old (notes ++ note ∷ []) new
 
 -- how a connection ends, from the last point before its end, with what is noted of a request that ends it
-pub data Ends {State Note : Type 0} (number : State → ℕ) (memory : List ℕ) (R : AnswerRelation State Note) (connection : ℕ)
+pub data Ends {State Note : Type 0} (number : State → ℕ) (limit : ℕ) (memory : List ℕ) (R : AnswerRelation State Note) (connection : ℕ)
     (ended : Ended) (last : Cursor State) (new : Progress State) : List Note → Type 0 where
   -- no byte is left
-  over : ended ≡ End → BeginsWith last.rest nothing → new ≡ last.progress → Ends number memory R connection ended last new []
+  over : ended ≡ End → BeginsWith limit last.rest nothing → new ≡ last.progress → Ends number limit memory R connection ended last new []
   -- the bytes end inside a head
-  cut : ended ≡ CutShort last.place → BeginsWith last.rest cut_short → new ≡ last.progress → Ends number memory R connection ended last new []
+  cut : ended ≡ CutShort last.place → BeginsWith limit last.rest cut_short → new ≡ last.progress → Ends number limit memory R connection ended last new []
   -- an answer ended it, or the line failed under one
-  served : (cursor : Cursor State) (note : Note) → Serves number R connection (Some ended) last note cursor
-      → new ≡ cursor.progress → Ends number memory R connection ended last new (note ∷ [])
+  served : (cursor : Cursor State) (note : Note) → Serves number limit R connection (Some ended) last note cursor
+      → new ≡ cursor.progress → Ends number limit memory R connection ended last new (note ∷ [])
   -- memory ran out while a request was read
   unread : (heard : List Piece) → ended ≡ Memory → new.state ≡ last.progress.state
-      → MaySendInterim (OwesInterim last.rest) connection (number last.progress.state) last.progress.sent heard
-      → new.sent ≡ heard ++ piece_on connection (number last.progress.state) memory ∷ [] → Ends number memory R connection ended last new []
+      → MaySendInterim (OwesInterim limit last.rest) connection (number last.progress.state) last.progress.sent heard
+      → new.sent ≡ heard ++ piece_on connection (number last.progress.state) memory ∷ [] → Ends number limit memory R connection ended last new []
   -- the line failed while a request was read
   unheard : ended ≡ LineFailed → new.state ≡ last.progress.state
-      → CutsInterim (OwesInterim last.rest) connection (number last.progress.state) last.progress.sent new.sent → Ends number memory R connection ended last new []
+      → CutsInterim (OwesInterim limit last.rest) connection (number last.progress.state) last.progress.sent new.sent → Ends number limit memory R connection ended last new []
   -- memory ran out while a request was read, and the line failed under the answer for that
   untold : (heard : List Piece) → ended ≡ LineFailed → new.state ≡ last.progress.state
-      → MaySendInterim (OwesInterim last.rest) connection (number last.progress.state) last.progress.sent heard
-      → CutsPiece connection (number last.progress.state) memory heard new.sent → Ends number memory R connection ended last new []
+      → MaySendInterim (OwesInterim limit last.rest) connection (number last.progress.state) last.progress.sent heard
+      → CutsPiece connection (number last.progress.state) memory heard new.sent → Ends number limit memory R connection ended last new []
 
 -- one connection: its requests in order, none skipped, and its end
-pub record ConnectionTrace {State Note : Type 0} (number : State → ℕ) (memory : List ℕ) (R : AnswerRelation State Note) (connection : ℕ)
+pub record ConnectionTrace {State Note : Type 0} (number : State → ℕ) (limit : ℕ) (memory : List ℕ) (R : AnswerRelation State Note) (connection : ℕ)
     (ended : Ended) (old : Cursor State) (notes : List Note) (new : Progress State) : Type 0 where
   pub last : Cursor State
   pub before : List Note
   pub after : List Note
-  pub exchanges : Exchanges number R connection old before last
-  pub ends : Ends number memory R connection ended last new after
+  pub exchanges : Exchanges number limit R connection old before last
+  pub ends : Ends number limit memory R connection ended last new after
   pub all : notes ≡ before ++ after
 
 -- ---- runs
@@ -128,18 +128,18 @@ abbrev pub faulty_after : List Bool → ℕ → Ended → List Bool
 faulty_after faulty begun ended = if is_failed_end ended then slice_set (faulty ++ false ∷ []) (begun - 1) true else faulty ++ false ∷ []
 
 -- the next connection was served
-pub record ServesNext {State Note : Type 0} (number : State → ℕ) (memory : List ℕ) (R : AnswerRelation State Note)
+pub record ServesNext {State Note : Type 0} (number : State → ℕ) (limit : ℕ) (memory : List ℕ) (R : AnswerRelation State Note)
     (old : RunCursor State) (notes : List Note) (new : RunCursor State) : Type 0 where
   pub bytes : List ℕ
   pub ended : Ended
   pub waiting : old.waiting ≡ bytes ∷ new.waiting
   pub begun : new.begun ≡ old.begun + 1
   pub faulty : new.faulty ≡ faulty_after old.faulty new.begun ended
-  pub trace : ConnectionTrace number memory R new.begun ended (cursor bytes 0 old.progress) notes new.progress
+  pub trace : ConnectionTrace number limit memory R new.begun ended (cursor bytes 0 old.progress) notes new.progress
 
 -- any number of connections, each begun where the one before it ended
-pub data RunTrace {State Note : Type 0} (number : State → ℕ) (memory : List ℕ) (R : AnswerRelation State Note)
+pub data RunTrace {State Note : Type 0} (number : State → ℕ) (limit : ℕ) (memory : List ℕ) (R : AnswerRelation State Note)
     : RunCursor State → List Note → RunCursor State → Type 0 where
-  none : (cursor : RunCursor State) → RunTrace number memory R cursor [] cursor
+  none : (cursor : RunCursor State) → RunTrace number limit memory R cursor [] cursor
   more : (old middle new : RunCursor State) (notes next : List Note)
-      → RunTrace number memory R old notes middle → ServesNext number memory R middle next new → RunTrace number memory R old (notes ++ next) new
+      → RunTrace number limit memory R old notes middle → ServesNext number limit memory R middle next new → RunTrace number limit memory R old (notes ++ next) new

@@ -10,7 +10,8 @@ use gate_base::{Counted, Line};
 use http_wire::{Got, ReadFault, Reader};
 use std::alloc::Global;
 
-/// Serves one open connection to its end: its requests are answered in order (RFC 9112, section 9.3). After the first that ends
+/// Serves one open connection to its end: its requests, with bodies within the service's limit, are answered in order (RFC 9112,
+/// section 9.3). After the first that ends
 /// the connection, and where the line fails or memory runs out while a request is read, no more is read of it. Before a body
 /// whose head expects it, `HTTP/1.1 100 Continue` is sent (RFC 9110, section 10.1.1). `LineFailed` comes only where the line's
 /// count of faults rose, and `Memory` only where memory ran out, which is then answered.
@@ -26,7 +27,7 @@ pub fn serve_connection<C: Counted, N: Line<C>, S: Service<C, N>>(
     // Where the line is observable, it is one connection.
     ensures serves { (view : S.View) → S.Given view service.old
         → IsTrue (N.model line.old).observable → (notes : List S.Note)
-        × ConnectionTrace S.number S.memory (S.Answers view service.new)
+        × ConnectionTrace S.number S.limit S.memory (S.Answers view service.new)
         (N.model line.old).transcript.begun result
         (start_of (N.model line.old).transcript (S.state service.old)) notes
         (progress (S.state service.new) (N.model line.new).transcript.sent) }
@@ -59,11 +60,11 @@ fn serve_next<C: Counted, N: Line<C>, S: Service<C, N>>(
     ensures line { LineServes (is_failed_step result) (N.model line.old) (N.model line.new) }
     ensures goes_on { S.GoesOn service.old service.new }
     ensures serves { (view : S.View) → S.Given view service.old → IsTrue (N.model line.old).observable
-        → NextOne S.number S.memory (S.Answers view service.new) (N.model line.old).transcript.begun
+        → NextOne S.number S.limit S.memory (S.Answers view service.new) (N.model line.old).transcript.begun
         (cursor_of reader.old (N.model line.old).transcript (S.state service.old)) result
         (cursor_of reader.new (N.model line.new).transcript (S.state service.new)) }
 {
-    match reader.next_request(line, service.counter()) {
+    match reader.next_request(service.body_limit(), line, service.counter()) {
         Ok(Got::Request(message)) => service.answer(line, Received::Message(message)),
         Ok(Got::Refused { kind, place, head }) => {
             service.answer(line, Received::Refused { kind, place, head })

@@ -30,7 +30,7 @@ pub fn serve_all<C: Counted, N: Line<C>, S: Service<C, N>>(
     // Where the line is observable, it is a run.
     ensures serves { (view : S.View) → S.Given view service.old
         → IsTrue (N.model line.old).observable → (notes : List S.Note)
-        × RunTrace S.number S.memory (S.Answers view service.new)
+        × RunTrace S.number S.limit S.memory (S.Answers view service.new)
         (run_cursor (N.model line.old).transcript (S.state service.old)) notes
         (run_cursor (N.model line.new).transcript (S.state service.new)) }
 {
@@ -76,7 +76,7 @@ fn serve_another<C: Counted, N: Line<C>, S: Service<C, N>>(
     ensures goes { S.GoesOn service.old service.new }
     ensures serves { (view : S.View) → S.Given view service.old
         → IsTrue (N.model line.old).observable
-        → NextCursor S.number S.memory (S.Answers view service.new) result
+        → NextCursor S.number S.limit S.memory (S.Answers view service.new) result
         (run_cursor (N.model line.old).transcript (S.state service.old))
         (run_cursor (N.model line.new).transcript (S.state service.new)) }
 {

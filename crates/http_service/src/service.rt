@@ -28,6 +28,9 @@ pub trait Service<C: Counted, N: Line<C>> {
     /// How many calls its store had counted in a state.
     ghost number: { State → ℕ };
 
+    /// The most bytes that the body of a request may have.
+    ghost limit: { ℕ };
+
     /// The answer where memory ran out before a request was read.
     ghost memory: { List ℕ };
 
@@ -43,6 +46,10 @@ pub trait Service<C: Counted, N: Line<C>> {
     /// The store with whose number of calls a piece is recorded.
     fn counter(&self) -> &C
         ensures { C.called result.now ≡ number (state self.now) };
+
+    /// The most bytes that the body of a request may have.
+    fn body_limit(&self) -> u64
+        ensures { result ≡ limit };
 
     /// The answer where memory ran out before a request was read. It takes no memory.
     fn out_of_memory(&self) -> &[u8]

@@ -13,7 +13,7 @@ use Rattle.http_wire.specs.declared.message.Message.{Message}
 use Rattle.http_wire.specs.declared.message.Kind.{Kind}
 use Rattle.http_wire.specs.declared.message.Kind.TheVariants.{BadHead, LongHead, ManyHeaders, NoLength, BadLength, LongBody, Transfer, ShortBody}
 use Rattle.http_wire.specs.declared.take.Taken.TheVariants.{Whole, Not}
-use Rattle.http_wire.specs.FirstMessage.{HasDeadPrefix, HasHead, HasNoHead, CannotBecomeHead, BeginsWith, IsJudged, IsRefused, asks, cut_short, is_length, is_put, judge, length_judged, message_of, nothing, refused, value_judged}
+use Rattle.http_wire.specs.FirstMessage.{HasDeadPrefix, HasHead, HasNoHead, CannotBecomeHead, BeginsWith, IsJudged, IsRefused, asks, body_limit, cut_short, is_length, is_put, judge, length_judged, message_of, nothing, refused, value_judged}
 use Rattle.http_wire.specs.Headers.{has_header, values_of}
 use Rattle.http_wire.specs.Seen.{window}
 use Rattle.http_wire.specs.Taken.{TakenFrom}
@@ -65,8 +65,8 @@ long_has_none bytes more none long h n has =
       sym (take-append-le 16384 bytes more long) ∙ ap₂ take (sym full) has.0.1 ∙ take-append-add (print_request h) rest k,
     )
 
-pub front_bad : (bytes more : List ℕ) → CannotBecomeHead (window bytes) → BeginsWith (bytes ++ more) (refused BadHead false)
-front_bad bytes more dead = (dead_has_none bytes more dead, dead_prefix bytes more dead, refl)
+pub front_bad : (limit : ℕ) (bytes more : List ℕ) → CannotBecomeHead (window bytes) → BeginsWith limit (bytes ++ more) (refused BadHead false)
+front_bad limit bytes more dead = (dead_has_none bytes more dead, dead_prefix bytes more dead, refl)
 
 -- a prefix of up to 16,384 bytes is one of the window's, where that is full
 long_lives : (bytes more : List ℕ) → 16384 ≤ length bytes → ¬ (HasDeadPrefix (window bytes)) → ¬ (HasDeadPrefix (bytes ++ more))
@@ -76,18 +76,18 @@ long_lives bytes more long lives (n, short, dead) =
     ∙ ap (take n) (whole bytes more) in
     lives (n, short, subst CannotBecomeHead (sym same) dead)
 
-pub front_long : (bytes more : List ℕ) → HasNoRequest (window bytes) → ¬ (HasDeadPrefix (window bytes)) → 16384 ≤ length bytes
-    → BeginsWith (bytes ++ more) (refused LongHead false)
-front_long bytes more none lives long = (
+pub front_long : (limit : ℕ) (bytes more : List ℕ) → HasNoRequest (window bytes) → ¬ (HasDeadPrefix (window bytes)) → 16384 ≤ length bytes
+    → BeginsWith limit (bytes ++ more) (refused LongHead false)
+front_long limit bytes more none lives long = (
   long_has_none bytes more none long,
   long_lives bytes more long lives,
   omega (arith, long, length-append bytes more),
   refl,
 )
 
-pub front_cut : (bytes more : List ℕ) → 0 < length bytes → length bytes < 16384 → HasNoRequest (window bytes)
-    → ¬ (HasDeadPrefix (window bytes)) → more ≡ [] → BeginsWith (bytes ++ more) cut_short
-front_cut bytes more some short none lives end =
+pub front_cut : (limit : ℕ) (bytes more : List ℕ) → 0 < length bytes → length bytes < 16384 → HasNoRequest (window bytes)
+    → ¬ (HasDeadPrefix (window bytes)) → more ≡ [] → BeginsWith limit (bytes ++ more) cut_short
+front_cut limit bytes more some short none lives end =
     let all : window bytes ≡ bytes ++ more =
     take_all 16384 bytes (omega (arith, short)) ∙ sym (append-nil bytes) ∙ ap (λ v. bytes ++ v) (sym end) in (
       omega (arith, some, length-append bytes more),
@@ -96,8 +96,8 @@ front_cut bytes more some short none lives end =
       subst (λ v. ¬ (HasDeadPrefix v)) all lives,
     )
 
-pub front_ends : (bytes more : List ℕ) → bytes ≡ [] → more ≡ [] → BeginsWith (bytes ++ more) nothing
-front_ends bytes more none end = ap₂ (λ a b. a ++ b) none end
+pub front_ends : (limit : ℕ) (bytes more : List ℕ) → bytes ≡ [] → more ≡ [] → BeginsWith limit (bytes ++ more) nothing
+front_ends limit bytes more none end = ap₂ (λ a b. a ++ b) none end
 
 -- a vector whose elements were all written through a slice
 pub written : (n : ℕ) (new old : List HeaderSpan) → length new ≡ n → new ≡ take n (new ++ drop (length new) old)
@@ -121,39 +121,39 @@ chosen : (b : Bool) (x y : Result ℕ Kind) → Judges x → Judges y → Judges
 chosen true x y first other = first
 chosen false x y first other = other
 
-value_judges : (value : List ℕ) → Judges (value_judged value)
-value_judges value = chosen (is_length value) _ _ (chosen (nat_lt 16777216 (digits_value 10 value)) _ _ tt tt) tt
+value_judges : (limit : ℕ) (value : List ℕ) → Judges (value_judged limit value)
+value_judges limit value = chosen (is_length value) _ _ (chosen (nat_lt (body_limit limit) (digits_value 10 value)) _ _ tt tt) tt
 
-length_judges : (put : Bool) (values : List (List ℕ)) → Judges (length_judged put values)
-length_judges put [] = chosen put _ _ tt tt
-length_judges put (value ∷ []) = value_judges value
-length_judges put (value ∷ other ∷ values) = tt
+length_judges : (limit : ℕ) (put : Bool) (values : List (List ℕ)) → Judges (length_judged limit put values)
+length_judges limit put [] = chosen put _ _ tt tt
+length_judges limit put (value ∷ []) = value_judges limit value
+length_judges limit put (value ∷ other ∷ values) = tt
 
-judges : (message : Message) → Judges (judge message)
-judges message =
+judges : (limit : ℕ) (message : Message) → Judges (judge limit message)
+judges limit message =
     chosen (nat_lt 100 (length message.headers)) _ _ tt
     (chosen (has_header (codes "transfer-encoding") message.headers) _ _ tt
-    (length_judges (is_put message.method) (values_of (codes "content-length") message.headers)))
+    (length_judges limit (is_put message.method) (values_of (codes "content-length") message.headers)))
 
-refused_judged : (bytes : List ℕ) (kind : Kind) (head : Bool) → Judges (Err kind) → IsJudged bytes kind head → IsRefused bytes kind head
-refused_judged bytes BadHead head fits is = absurd fits
-refused_judged bytes LongHead head fits is = absurd fits
-refused_judged bytes ManyHeaders head fits is = is
-refused_judged bytes NoLength head fits is = is
-refused_judged bytes BadLength head fits is = is
-refused_judged bytes LongBody head fits is = is
-refused_judged bytes Transfer head fits is = is
-refused_judged bytes ShortBody head fits is = absurd fits
+refused_judged : (limit : ℕ) (bytes : List ℕ) (kind : Kind) (head : Bool) → Judges (Err kind) → IsJudged limit bytes kind head → IsRefused limit bytes kind head
+refused_judged limit bytes BadHead head fits is = absurd fits
+refused_judged limit bytes LongHead head fits is = absurd fits
+refused_judged limit bytes ManyHeaders head fits is = is
+refused_judged limit bytes NoLength head fits is = is
+refused_judged limit bytes BadLength head fits is = is
+refused_judged limit bytes LongBody head fits is = is
+refused_judged limit bytes Transfer head fits is = is
+refused_judged limit bytes ShortBody head fits is = absurd fits
 
 -- what was taken of a whole head stands first
-pub front_taken : (all : List ℕ) (h : RequestHead) (n : ℕ) (message : Message) (size : ℕ) (left : List ℕ) → HasHead all h n
-    → TakenFrom all h n (Whole message size) left → BeginsWith all (asks message size) × (left ≡ drop size all)
-front_taken all h n message size left has (m, is, sized, within, spelt, rest) =
+pub front_taken : (limit : ℕ) (all : List ℕ) (h : RequestHead) (n : ℕ) (message : Message) (size : ℕ) (left : List ℕ) → HasHead all h n
+    → TakenFrom limit all h n (Whole message size) left → BeginsWith limit all (asks message size) × (left ≡ drop size all)
+front_taken limit all h n message size left has (m, is, sized, within, spelt, rest) =
     ((h, n, m, has, is, sized, omega (arith, sized, within), spelt), rest ∙ ap (λ k. drop k all) (sym sized))
 
-pub front_not : (all : List ℕ) (h : RequestHead) (n : ℕ) (kind : Kind) (head : Bool) (left : List ℕ) → HasHead all h n
-    → TakenFrom all h n (Not kind head) left → BeginsWith all (refused kind head)
-front_not all h n kind head left has (rest, method, inl is) =
-    refused_judged all kind head (subst Judges is (judges (message_of h))) (h, n, has, is, method)
-front_not all h n kind head left has (rest, method, inr (which, m, is, short)) =
-    subst (λ k. IsRefused all k head) (sym which) (h, n, m, has, is, short, method)
+pub front_not : (limit : ℕ) (all : List ℕ) (h : RequestHead) (n : ℕ) (kind : Kind) (head : Bool) (left : List ℕ) → HasHead all h n
+    → TakenFrom limit all h n (Not kind head) left → BeginsWith limit all (refused kind head)
+front_not limit all h n kind head left has (rest, method, inl is) =
+    refused_judged limit all kind head (subst Judges is (judges limit (message_of h))) (h, n, has, is, method)
+front_not limit all h n kind head left has (rest, method, inr (which, m, is, short)) =
+    subst (λ k. IsRefused limit all k head) (sym which) (h, n, m, has, is, short, method)

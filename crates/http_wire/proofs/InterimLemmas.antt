@@ -37,30 +37,30 @@ moved_fault at old new Memory to (inl e) = inl e
 moved_fault at old new Memory to (inr (p, e)) = inr (to p, e)
 
 -- the same by the bytes, where a head came whole and its message was taken
-pub whole_sent : (came more all : List ℕ) (headers : List HeaderSpan) (spans : RequestSpans) (at : ℕ) (old middle new : Transcript)
+pub whole_sent : (limit : ℕ) (came more all : List ℕ) (headers : List HeaderSpan) (spans : RequestSpans) (at : ℕ) (old middle new : Transcript)
     → came ++ more ≡ all → IsFound came headers (Head spans) → middle.begun ≡ old.begun → middle.sent ≡ old.sent
-    → ((h : RequestHead) → IsRequestAt (window came) headers spans h → SendsInterim (is_owed (message_of h) ≡ true) middle.begun at middle.sent new.sent)
-    → SendsInterim (OwesInterim all) old.begun at old.sent new.sent
-whole_sent came more all headers spans at old middle new is found b s sends =
+    → ((h : RequestHead) → IsRequestAt (window came) headers spans h → SendsInterim (is_owed limit (message_of h) ≡ true) middle.begun at middle.sent new.sent)
+    → SendsInterim (OwesInterim limit all) old.begun at old.sent new.sent
+whole_sent limit came more all headers spans at old middle new is found b s sends =
     let h : RequestHead = found.0.0 in
     let has = subst (λ (v : List ℕ). HasHead v h spans.len) is (whole_head came more headers spans h found.0.1 found.1) in
-    let before : (ℕ × List Piece) → Type 0 = λ x. SendsInterim (is_owed (message_of h) ≡ true) x.0 at x.1 new.sent in
-    moved old.begun at old.sent new.sent (λ owed. (h, spans.len, has, owed)) (owed_by_head all h spans.len has) (subst before (λ i. (b i, s i)) (sends h found.0.1))
+    let before : (ℕ × List Piece) → Type 0 = λ x. SendsInterim (is_owed limit (message_of h) ≡ true) x.0 at x.1 new.sent in
+    moved old.begun at old.sent new.sent (λ owed. (h, spans.len, has, owed)) (owed_by_head limit all h spans.len has) (subst before (λ i. (b i, s i)) (sends h found.0.1))
 
 -- and where its message could not be taken
-pub whole_sent_fault : (came more all : List ℕ) (headers : List HeaderSpan) (spans : RequestSpans) (at : ℕ) (old middle new : Transcript) (fault : ReadFault)
+pub whole_sent_fault : (limit : ℕ) (came more all : List ℕ) (headers : List HeaderSpan) (spans : RequestSpans) (at : ℕ) (old middle new : Transcript) (fault : ReadFault)
     → came ++ more ≡ all → IsFound came headers (Head spans) → middle.begun ≡ old.begun → middle.sent ≡ old.sent
-    → ((h : RequestHead) → IsRequestAt (window came) headers spans h → SendsOnFault (is_owed (message_of h) ≡ true) at middle fault new)
-    → SendsOnFault (OwesInterim all) at old fault new
-whole_sent_fault came more all headers spans at old middle new fault is found b s sends =
+    → ((h : RequestHead) → IsRequestAt (window came) headers spans h → SendsOnFault (is_owed limit (message_of h) ≡ true) at middle fault new)
+    → SendsOnFault (OwesInterim limit all) at old fault new
+whole_sent_fault limit came more all headers spans at old middle new fault is found b s sends =
     let h : RequestHead = found.0.0 in
     let has = subst (λ (v : List ℕ). HasHead v h spans.len) is (whole_head came more headers spans h found.0.1 found.1) in
-    moved_fault at old new fault (λ owed. (h, spans.len, has, owed)) (earlier (is_owed (message_of h) ≡ true) at old middle new fault b s (sends h found.0.1))
+    moved_fault at old new fault (λ owed. (h, spans.len, has, owed)) (earlier (is_owed limit (message_of h) ≡ true) at old middle new fault b s (sends h found.0.1))
 
 -- no whole head came, and nothing was sent
-pub none_sent : (came more all : List ℕ) (connection at : ℕ) (old new : List Piece) → came ++ more ≡ all → HasNoHead (came ++ more) → new ≡ old
-    → SendsInterim (OwesInterim all) connection at old new
-none_sent came more all connection at old new is none e = inr (none_owed all (subst HasNoHead is none), e)
+pub none_sent : (limit : ℕ) (came more all : List ℕ) (connection at : ℕ) (old new : List Piece) → came ++ more ≡ all → HasNoHead (came ++ more) → new ≡ old
+    → SendsInterim (OwesInterim limit all) connection at old new
+none_sent limit came more all connection at old new is none e = inr (none_owed limit all (subst HasNoHead is none), e)
 
 pub empty_has_none : (bytes more : List ℕ) → bytes ≡ [] → more ≡ [] → HasNoHead (bytes ++ more)
 empty_has_none bytes more none end h n has = not_empty (bytes ++ more) h n has (λ i. none i ++ end i)

@@ -26,41 +26,41 @@ pub all_stay : (came partial more all : List ℕ) → partial ≡ [] → came ++
 all_stay came partial more all none is = ap (λ v. v ++ more) (ap (λ v. came ++ v) none ∙ append-nil came) ∙ is
 
 -- the answer to what was taken of a whole head is the first message
-pub gives_taken : (taken : Taken) (all : List ℕ) (h : RequestHead) (n : ℕ) (left : List ℕ) (old : Pending) (got : Got) (new : Pending) → HasHead all h n
-    → TakenFrom all h n taken left → old.ended ≡ false → IsAnswer taken old.place got new.place new.ended → GivesFirstMessage old all got new left
-gives_taken (Whole message size) all h n left old got new has taken goes is =
-    let front = front_taken all h n message size left has taken in
-    subst (λ v. GivesFirstMessage old all v new left) (sym is.0) (size, goes, front.0, front.1, is.1)
-gives_taken (Not kind head) all h n left old got new has taken goes is =
-    subst (λ v. GivesFirstMessage old all v new left) (sym is.0) (goes, front_not all h n kind head left has taken, refl, taken.0, is.1)
+pub gives_taken : (limit : ℕ) (taken : Taken) (all : List ℕ) (h : RequestHead) (n : ℕ) (left : List ℕ) (old : Pending) (got : Got) (new : Pending) → HasHead all h n
+    → TakenFrom limit all h n taken left → old.ended ≡ false → IsAnswer taken old.place got new.place new.ended → GivesFirstMessage limit old all got new left
+gives_taken limit (Whole message size) all h n left old got new has taken goes is =
+    let front = front_taken limit all h n message size left has taken in
+    subst (λ v. GivesFirstMessage limit old all v new left) (sym is.0) (size, goes, front.0, front.1, is.1)
+gives_taken limit (Not kind head) all h n left old got new has taken goes is =
+    subst (λ v. GivesFirstMessage limit old all v new left) (sym is.0) (goes, front_not limit all h n kind head left has taken, refl, taken.0, is.1)
 
 -- ---- no whole head was found
 
 -- the answer is the first message
-pub gives_headless : (found : Found) (came more all left : List ℕ) (headers : List HeaderSpan) (at : ℕ) (old : Pending) (got : Got) (new : Pending)
+pub gives_headless : (limit : ℕ) (found : Found) (came more all left : List ℕ) (headers : List HeaderSpan) (at : ℕ) (old : Pending) (got : Got) (new : Pending)
     → AnswersHeadless found at got → IsFound came headers found → AtEnd found more → came ++ more ≡ all → left ≡ all
-    → old.ended ≡ false → at ≡ old.place → new.place ≡ old.place → GivesFirstMessage old all got new left
-gives_headless (Head spans) came more all left headers at old got new is found end whole stays goes place kept = absurd is
-gives_headless Bad came more all left headers at old got new is found end whole stays goes place kept =
-    subst (λ v. GivesFirstMessage old all v new left) (sym is)
-    (goes, subst (λ v. BeginsWith v (refused BadHead false)) whole (front_bad came more found), place, stays, kept)
-gives_headless Long came more all left headers at old got new is found end whole stays goes place kept =
-    subst (λ v. GivesFirstMessage old all v new left) (sym is)
-    (goes, subst (λ v. BeginsWith v (refused LongHead false)) whole (front_long came more found.0 found.1 found.2), place, stays, kept)
-gives_headless Cut came more all left headers at old got new is found end whole stays goes place kept =
-    subst (λ v. GivesFirstMessage old all v new left) (sym is)
-    (goes, subst (λ v. BeginsWith v cut_short) whole (front_cut came more found.0 found.1 found.2 found.3 end), place, stays, kept)
-gives_headless Nothing came more all left headers at old got new is found end whole stays goes place kept =
-    subst (λ v. GivesFirstMessage old all v new left) (sym is)
-    (inr (subst (λ v. BeginsWith v nothing) whole (front_ends came more found end)), stays, kept)
+    → old.ended ≡ false → at ≡ old.place → new.place ≡ old.place → GivesFirstMessage limit old all got new left
+gives_headless limit (Head spans) came more all left headers at old got new is found end whole stays goes place kept = absurd is
+gives_headless limit Bad came more all left headers at old got new is found end whole stays goes place kept =
+    subst (λ v. GivesFirstMessage limit old all v new left) (sym is)
+    (goes, subst (λ v. BeginsWith limit v (refused BadHead false)) whole (front_bad limit came more found), place, stays, kept)
+gives_headless limit Long came more all left headers at old got new is found end whole stays goes place kept =
+    subst (λ v. GivesFirstMessage limit old all v new left) (sym is)
+    (goes, subst (λ v. BeginsWith limit v (refused LongHead false)) whole (front_long limit came more found.0 found.1 found.2), place, stays, kept)
+gives_headless limit Cut came more all left headers at old got new is found end whole stays goes place kept =
+    subst (λ v. GivesFirstMessage limit old all v new left) (sym is)
+    (goes, subst (λ v. BeginsWith limit v cut_short) whole (front_cut limit came more found.0 found.1 found.2 found.3 end), place, stays, kept)
+gives_headless limit Nothing came more all left headers at old got new is found end whole stays goes place kept =
+    subst (λ v. GivesFirstMessage limit old all v new left) (sym is)
+    (inr (subst (λ v. BeginsWith limit v nothing) whole (front_ends limit came more found end)), stays, kept)
 
 -- so the bytes have none
 pub headless_has_none : (found : Found) (came more : List ℕ) (headers : List HeaderSpan) (at : ℕ) (got : Got) → AnswersHeadless found at got
     → IsFound came headers found → AtEnd found more → HasNoHead (came ++ more)
 headless_has_none (Head spans) came more headers at got is found end = absurd is
-headless_has_none Bad came more headers at got is found end = (front_bad came more found).0
-headless_has_none Long came more headers at got is found end = (front_long came more found.0 found.1 found.2).0
-headless_has_none Cut came more headers at got is found end = (front_cut came more found.0 found.1 found.2 found.3 end).2
+headless_has_none Bad came more headers at got is found end = (front_bad 0 came more found).0
+headless_has_none Long came more headers at got is found end = (front_long 0 came more found.0 found.1 found.2).0
+headless_has_none Cut came more headers at got is found end = (front_cut 0 came more found.0 found.1 found.2 found.3 end).2
 headless_has_none Nothing came more headers at got is found end = empty_has_none came more found end
 
 -- and it is no request

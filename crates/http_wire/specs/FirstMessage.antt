@@ -1,11 +1,12 @@
 -- What stands first in the bytes that are left of a connection: a request, nothing, a head that was cut short, or what is
--- refused (RFC 9112, sections 2, 3, 5 and 6, and this profile's limits). Each is said of the whole list of these bytes.
-use Rattle.std.specs.Prelude.{◌≡◌, ℕ, ◌+◌, ◌<◌, ◌≤◌, nat_lt, Bool, false, not, ◌&&◌, ◌==◌, if◌then◌else◌}
+-- refused (RFC 9112, sections 2, 3, 5 and 6, and this profile's limits). Each is said of the whole list of these bytes, and takes
+-- the most bytes that a body may have.
+use Rattle.std.specs.Prelude.{◌≡◌, ℕ, ◌+◌, ◌<◌, ◌≤◌, min, nat_lt, Bool, false, not, ◌&&◌, ◌==◌, if◌then◌else◌}
 use Rattle.std.specs.Prelude.{List, [], ◌∷◌, ◌++◌, length, take, drop, map, codes, bytes_eq, Result, Ok, Err}
 use Rattle.std.specs.Char.{to_ascii_lowercase}
 use Rattle.std.specs.Str.Parse.{digits_value}
 use Rattle.gate_base.specs.declared.page.Pair.{Pair}
-use Rattle.http_wire.specs.declared.judge.TheConstants.{BODY_LIMIT}
+use Rattle.http_wire.specs.declared.judge.TheConstants.{MOST_BODY_LIMIT}
 use Rattle.http_wire.specs.declared.advance.TheConstants.{HEAD_LIMIT}
 use Rattle.http_wire.specs.declared.message.Message.{Message}
 use Rattle.http_wire.specs.declared.message.Kind.{Kind}
@@ -64,16 +65,20 @@ message_of h = record { method = h.method; target = h.target; old = h.minor == 0
 abbrev pub is_length : List ℕ → Bool
 is_length value = is_number 19 value
 
--- how many bytes of body a length asks for, at most 16,777,216, or why it is refused (this profile)
-abbrev pub value_judged : List ℕ → Result ℕ Kind
-value_judged value =
-    if is_length value then (if nat_lt BODY_LIMIT (digits_value 10 value) then Err LongBody else Ok (digits_value 10 value)) else Err BadLength
+-- the limit of a body that is given, but at most 1,073,741,824 (this profile)
+abbrev pub body_limit : ℕ → ℕ
+body_limit limit = min limit MOST_BODY_LIMIT
+
+-- how many bytes of body a length asks for, within the limit, or why it is refused (this profile)
+abbrev pub value_judged : ℕ → List ℕ → Result ℕ Kind
+value_judged limit value =
+    if is_length value then (if nat_lt (body_limit limit) (digits_value 10 value) then Err LongBody else Ok (digits_value 10 value)) else Err BadLength
 
 -- the same by all lengths that are given: one at most, and none only where the method isn't PUT (RFC 9112, section 6.3, and this profile)
-abbrev pub length_judged : Bool → List (List ℕ) → Result ℕ Kind
-length_judged put [] = if put then Err NoLength else Ok 0
-length_judged put (value ∷ []) = value_judged value
-length_judged put (value ∷ other ∷ values) = Err BadLength
+abbrev pub length_judged : ℕ → Bool → List (List ℕ) → Result ℕ Kind
+length_judged limit put [] = if put then Err NoLength else Ok 0
+length_judged limit put (value ∷ []) = value_judged limit value
+length_judged limit put (value ∷ other ∷ values) = Err BadLength
 
 -- the method is PUT (RFC 9110, section 9.3.4)
 abbrev pub is_put : List ℕ → Bool
@@ -81,11 +86,11 @@ is_put method = bytes_eq method (codes "PUT")
 
 -- how many bytes of body follow a whole head, or the first reason why it is refused: more than 100 headers, a
 -- Transfer-Encoding, a bad length, no length, a long body
-abbrev pub judge : Message → Result ℕ Kind
-judge message =
+abbrev pub judge : ℕ → Message → Result ℕ Kind
+judge limit message =
     if nat_lt 100 (length message.headers) then Err ManyHeaders
     else (if has_header (codes "transfer-encoding") message.headers then Err Transfer
-    else length_judged (is_put message.method) (values_of (codes "content-length") message.headers))
+    else length_judged limit (is_put message.method) (values_of (codes "content-length") message.headers))
 
 -- the method is HEAD (RFC 9110, section 9.3.2)
 abbrev pub is_head : List ℕ → Bool
@@ -96,26 +101,26 @@ abbrev pub message_with : RequestHead → List ℕ → Message
 message_with h body = record (message_of h) { body = body }
 
 -- the bytes are one whole head that is accepted, followed by exactly the body whose length it gives
-abbrev pub Spells : List ℕ → Message → Type 0
-Spells bytes message =
-    (h : RequestHead) × (n m : ℕ) × HasHead bytes h n × (judge (message_of h) ≡ Ok m) × (length bytes ≡ n + m)
+abbrev pub Spells : ℕ → List ℕ → Message → Type 0
+Spells limit bytes message =
+    (h : RequestHead) × (n m : ℕ) × HasHead bytes h n × (judge limit (message_of h) ≡ Ok m) × (length bytes ≡ n + m)
     × (message ≡ message_with h (drop n bytes))
 
 -- the bytes begin with an accepted head and its whole body, of so many bytes together
-abbrev pub IsAsked : List ℕ → Message → ℕ → Type 0
-IsAsked bytes message size =
-    (h : RequestHead) × (n m : ℕ) × HasHead bytes h n × (judge (message_of h) ≡ Ok m) × (size ≡ n + m) × (size ≤ length bytes)
+abbrev pub IsAsked : ℕ → List ℕ → Message → ℕ → Type 0
+IsAsked limit bytes message size =
+    (h : RequestHead) × (n m : ℕ) × HasHead bytes h n × (judge limit (message_of h) ≡ Ok m) × (size ≡ n + m) × (size ≤ length bytes)
     × (message ≡ message_with h (take m (drop n bytes)))
 
 -- a whole head that is refused
-abbrev pub IsJudged : List ℕ → Kind → Bool → Type 0
-IsJudged bytes kind head =
-    (h : RequestHead) × (n : ℕ) × HasHead bytes h n × (judge (message_of h) ≡ Err kind) × (head ≡ is_head h.method)
+abbrev pub IsJudged : ℕ → List ℕ → Kind → Bool → Type 0
+IsJudged limit bytes kind head =
+    (h : RequestHead) × (n : ℕ) × HasHead bytes h n × (judge limit (message_of h) ≡ Err kind) × (head ≡ is_head h.method)
 
 -- the bytes end inside the body of a head that is accepted
-abbrev pub EndsInBody : List ℕ → Bool → Type 0
-EndsInBody bytes head =
-    (h : RequestHead) × (n m : ℕ) × HasHead bytes h n × (judge (message_of h) ≡ Ok m) × (length bytes < n + m) × (head ≡ is_head h.method)
+abbrev pub EndsInBody : ℕ → List ℕ → Bool → Type 0
+EndsInBody limit bytes head =
+    (h : RequestHead) × (n m : ℕ) × HasHead bytes h n × (judge limit (message_of h) ≡ Ok m) × (length bytes < n + m) × (head ≡ is_head h.method)
 
 -- no whole head, and a prefix of which none can come and that doesn't end inside a target
 abbrev pub IsDeadHead : List ℕ → Bool → Type 0
@@ -126,19 +131,19 @@ abbrev pub IsLongHead : List ℕ → Bool → Type 0
 IsLongHead bytes head = HasNoHead bytes × ¬ (HasDeadPrefix bytes) × (HEAD_LIMIT ≤ length bytes) × (head ≡ false)
 
 -- what is refused, by its kind
-abbrev pub IsRefused : List ℕ → Kind → Bool → Type 0
-IsRefused bytes BadHead head = IsDeadHead bytes head
-IsRefused bytes LongHead head = IsLongHead bytes head
-IsRefused bytes ManyHeaders head = IsJudged bytes ManyHeaders head
-IsRefused bytes NoLength head = IsJudged bytes NoLength head
-IsRefused bytes BadLength head = IsJudged bytes BadLength head
-IsRefused bytes LongBody head = IsJudged bytes LongBody head
-IsRefused bytes Transfer head = IsJudged bytes Transfer head
-IsRefused bytes ShortBody head = EndsInBody bytes head
+abbrev pub IsRefused : ℕ → List ℕ → Kind → Bool → Type 0
+IsRefused limit bytes BadHead head = IsDeadHead bytes head
+IsRefused limit bytes LongHead head = IsLongHead bytes head
+IsRefused limit bytes ManyHeaders head = IsJudged limit bytes ManyHeaders head
+IsRefused limit bytes NoLength head = IsJudged limit bytes NoLength head
+IsRefused limit bytes BadLength head = IsJudged limit bytes BadLength head
+IsRefused limit bytes LongBody head = IsJudged limit bytes LongBody head
+IsRefused limit bytes Transfer head = IsJudged limit bytes Transfer head
+IsRefused limit bytes ShortBody head = EndsInBody limit bytes head
 
 -- what stands first in the bytes
-abbrev pub BeginsWith : List ℕ → FirstMessage → Type 0
-BeginsWith bytes (asks message size) = IsAsked bytes message size
-BeginsWith bytes nothing = bytes ≡ []
-BeginsWith bytes cut_short = (0 < length bytes) × (length bytes < HEAD_LIMIT) × HasNoHead bytes × ¬ (HasDeadPrefix bytes)
-BeginsWith bytes (refused kind head) = IsRefused bytes kind head
+abbrev pub BeginsWith : ℕ → List ℕ → FirstMessage → Type 0
+BeginsWith limit bytes (asks message size) = IsAsked limit bytes message size
+BeginsWith limit bytes nothing = bytes ≡ []
+BeginsWith limit bytes cut_short = (0 < length bytes) × (length bytes < HEAD_LIMIT) × HasNoHead bytes × ¬ (HasDeadPrefix bytes)
+BeginsWith limit bytes (refused kind head) = IsRefused limit bytes kind head

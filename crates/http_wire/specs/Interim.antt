@@ -31,20 +31,20 @@ abbrev pub owed_by : Message → Result ℕ Kind → Bool
 owed_by message (Ok size) = not message.old && (list_any is_expecting message.headers && nat_lt 0 size)
 owed_by message (Err kind) = false
 
--- whether a message is owed it. Its body doesn't matter
-abbrev pub is_owed : Message → Bool
-is_owed message = owed_by message (judge message)
+-- whether a message is owed it, by the limit of a body. Its body itself doesn't matter
+abbrev pub is_owed : ℕ → Message → Bool
+is_owed limit message = owed_by message (judge limit message)
 
 -- it is owed for what the bytes begin with: a whole head whose message is owed it, whether its body comes or not
-abbrev pub OwesInterim : List ℕ → Type 0
-OwesInterim bytes = (h : RequestHead) × (n : ℕ) × HasHead bytes h n × (is_owed (message_of h) ≡ true)
+abbrev pub OwesInterim : ℕ → List ℕ → Type 0
+OwesInterim limit bytes = (h : RequestHead) × (n : ℕ) × HasHead bytes h n × (is_owed limit (message_of h) ≡ true)
 
 -- the same, by cases of what the bytes begin with: a request says so itself, and where the body ends early its head does
-abbrev pub IsOwedFirst : List ℕ → FirstMessage → Type 0
-IsOwedFirst bytes (asks message size) = is_owed message ≡ true
-IsOwedFirst bytes nothing = ⊥
-IsOwedFirst bytes cut_short = ⊥
-IsOwedFirst bytes (refused kind head) = (kind ≡ ShortBody) × OwesInterim bytes
+abbrev pub IsOwedFirst : ℕ → List ℕ → FirstMessage → Type 0
+IsOwedFirst limit bytes (asks message size) = is_owed limit message ≡ true
+IsOwedFirst limit bytes nothing = ⊥
+IsOwedFirst limit bytes cut_short = ⊥
+IsOwedFirst limit bytes (refused kind head) = (kind ≡ ShortBody) × OwesInterim limit bytes
 
 -- ---- what is sent, where it is owed if P holds, on a connection when the store has counted so many calls
 

@@ -19,16 +19,17 @@ pub record Pending : Type 0 where
 abbrev pub place_after : ℕ → ℕ → ℕ
 place_after place size = min (place + size) (2 ^ 64 - 1)
 
--- the answer is the first message of all bytes that are left, read or not, and just the bytes of a request are gone from them
-abbrev pub GivesFirstMessage : Pending → List ℕ → Got → Pending → List ℕ → Type 0
-GivesFirstMessage old all (Request message) new left =
-    (size : ℕ) × (old.ended ≡ false) × BeginsWith all (asks message size) × (left ≡ drop size all) × (new.place ≡ place_after old.place size)
-GivesFirstMessage old all End new left =
-    ((old.ended ≡ true) ⊎ BeginsWith all nothing) × (left ≡ all) × (new.place ≡ old.place)
-GivesFirstMessage old all (CutShort place) new left =
-    (old.ended ≡ false) × BeginsWith all cut_short × (place ≡ old.place) × (left ≡ all) × (new.place ≡ old.place)
-GivesFirstMessage old all (Refused kind place head) new left =
-    (old.ended ≡ false) × BeginsWith all (refused kind head) × (place ≡ old.place) × (left ≡ all) × (new.place ≡ old.place)
+-- the answer is the first message of all bytes that are left, read or not, where a body has at most so many, and just the bytes of a
+-- request are gone from them
+abbrev pub GivesFirstMessage : ℕ → Pending → List ℕ → Got → Pending → List ℕ → Type 0
+GivesFirstMessage limit old all (Request message) new left =
+    (size : ℕ) × (old.ended ≡ false) × BeginsWith limit all (asks message size) × (left ≡ drop size all) × (new.place ≡ place_after old.place size)
+GivesFirstMessage limit old all End new left =
+    ((old.ended ≡ true) ⊎ BeginsWith limit all nothing) × (left ≡ all) × (new.place ≡ old.place)
+GivesFirstMessage limit old all (CutShort place) new left =
+    (old.ended ≡ false) × BeginsWith limit all cut_short × (place ≡ old.place) × (left ≡ all) × (new.place ≡ old.place)
+GivesFirstMessage limit old all (Refused kind place head) new left =
+    (old.ended ≡ false) × BeginsWith limit all (refused kind head) × (place ≡ old.place) × (left ≡ all) × (new.place ≡ old.place)
 
 -- whether the reader answers End after this answer: after any but a request
 abbrev pub ends : Result Got ReadFault → Bool

@@ -12,13 +12,13 @@ use Rattle.http_wire.specs.Reading.{place_after}
 use Rattle.httparse.specs.Grammar.{RequestHead}
 
 -- the message of the head h, of n bytes, with its body, and what is left behind them; or why it is refused, and then all is left
-abbrev pub TakenFrom : List ℕ → RequestHead → ℕ → Taken → List ℕ → Type 0
-TakenFrom all h n (Whole message size) left =
-    (m : ℕ) × (judge (message_of h) ≡ Ok m) × (size ≡ n + m) × (n + m ≤ length all) × (message ≡ message_with h (take m (drop n all)))
+abbrev pub TakenFrom : ℕ → List ℕ → RequestHead → ℕ → Taken → List ℕ → Type 0
+TakenFrom limit all h n (Whole message size) left =
+    (m : ℕ) × (judge limit (message_of h) ≡ Ok m) × (size ≡ n + m) × (n + m ≤ length all) × (message ≡ message_with h (take m (drop n all)))
     × (left ≡ drop (n + m) all)
-TakenFrom all h n (Not kind head) left =
+TakenFrom limit all h n (Not kind head) left =
     (left ≡ all) × (head ≡ is_head h.method)
-    × ((judge (message_of h) ≡ Err kind) ⊎ ((kind ≡ ShortBody) × (m : ℕ) × (judge (message_of h) ≡ Ok m) × (length all < n + m)))
+    × ((judge limit (message_of h) ≡ Err kind) ⊎ ((kind ≡ ShortBody) × (m : ℕ) × (judge limit (message_of h) ≡ Ok m) × (length all < n + m)))
 
 -- m bytes behind the first n of all came whole, or the connection ended before, and then all is left
 abbrev pub BodyFrom : List ℕ → ℕ → ℕ → Bool → List ℕ → List ℕ → List ℕ → Type 0

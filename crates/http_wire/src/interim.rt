@@ -3,8 +3,7 @@ ghost use Rattle.std.specs.Prelude.{◌≡◌, true, not, ◌&&◌, IsTrue, Ok, 
 ghost use Rattle.std.specs.Result.{is_err};
 ghost use Rattle.std.specs.List.{list_any};
 ghost use Rattle.gate_base.specs.Line.{OnlyWrites};
-ghost use Rattle.http_wire.specs.FirstMessage.{judge};
-ghost use Rattle.http_wire.specs.Interim.{is_expecting, is_owed, SendsInterim, CutsInterim};
+ghost use Rattle.http_wire.specs.Interim.{is_expecting, owed_by, SendsInterim, CutsInterim};
 
 use crate::Message;
 use crate::headers::has_name;
@@ -20,14 +19,13 @@ pub(crate) fn offer<N: Line<C>, C: Counted>(
     store: &C,
 ) -> Result<(), Failed>
     requires open { IsTrue (N.model line.old).is_open }
-    requires judged { judge message.now ≡ Ok size }
     ensures writes { OnlyWrites (is_err result) (N.model line.old) (N.model line.new) }
     ensures sent { IsTrue (N.model line.old).observable
-        → OnOk result (SendsInterim (is_owed message.now ≡ true)
+        → OnOk result (SendsInterim (owed_by message.now (Ok size) ≡ true)
         (N.model line.old).transcript.begun (C.called store.now)
         (N.model line.old).transcript.sent (N.model line.new).transcript.sent) }
     ensures sent_err { IsTrue (N.model line.old).observable
-        → OnErr result (CutsInterim (is_owed message.now ≡ true)
+        → OnErr result (CutsInterim (owed_by message.now (Ok size) ≡ true)
         (N.model line.old).transcript.begun (C.called store.now)
         (N.model line.old).transcript.sent (N.model line.new).transcript.sent) }
 {

@@ -19,6 +19,7 @@ mod take;
 pub use closing::closes;
 pub use headers::{first_value, has_header, has_name, has_single_header, text_of, values_of};
 pub use join::joined;
+pub use judge::{BODY_LIMIT, MOST_BODY_LIMIT};
 pub use laws::{interim_owed, one_front, one_request_spelling, request_size};
 pub use message::{Got, Kind, Message, ReadFault};
 pub use print::{print_memory, print_page};

@@ -50,7 +50,7 @@ pub enum Kind {
     /// More than one Content-Length, or one that isn't 1 to 19 digits.
     BadLength,
 
-    /// A body of more than 16,777,216 bytes.
+    /// A body of more bytes than the limit.
     LongBody,
 
     /// A Transfer-Encoding.

@@ -56,7 +56,8 @@ impl Reader {
     }
 
     /// Reads one request: a whole head of at most 16,384 bytes with at most 100 headers and no Transfer-Encoding, and
-    /// the body of at most 16,777,216 bytes whose length its one Content-Length gives; without one the body is empty,
+    /// the body of at most `limit` bytes, and at most [`MOST_BODY_LIMIT`](crate::MOST_BODY_LIMIT), whose length its one
+    /// Content-Length gives; without one the body is empty,
     /// and for PUT the request is refused (RFC 9112, sections 2, 3, 5 and 6, and this profile). `End` comes where no
     /// byte is left, `CutShort` where the connection ends inside a head that could still go on or inside its target,
     /// and `Refused` for all else, by its kind. Failed comes only where the line failed. After an error, and after any
@@ -68,6 +69,7 @@ impl Reader {
     /// section 10.1.1). It writes nothing else. Where that write fails, first bytes of the line may have been sent.
     pub fn next_request<N: Line<C>, C: Counted>(
         &mut self,
+        limit: u64,
         line: &mut N,
         store: &C,
     ) -> Result<Got, ReadFault>
@@ -86,7 +88,7 @@ impl Reader {
 
         // Where the line is observable: the answer is the front of all that is left, read or not.
         ensures effect { IsTrue (N.model line.old).observable
-            → IfOk result (λ got. GivesFirstMessage
+            → IfOk result (λ got. GivesFirstMessage limit
             self.old (self.old.bytes ++ (N.model line.old).transcript.rest) got
             self.new (self.new.bytes ++ (N.model line.new).transcript.rest)) }
         ensures effect_err { IsTrue (N.model line.old).observable → OnErr result
@@ -96,7 +98,7 @@ impl Reader {
 
         // And the interim line was sent where it is owed, and nothing else.
         ensures sent { self.old.ended ≡ false → IsTrue (N.model line.old).observable
-            → SendsOn (OwesInterim (self.old.bytes ++ (N.model line.old).transcript.rest))
+            → SendsOn (OwesInterim limit (self.old.bytes ++ (N.model line.old).transcript.rest))
             (C.called store.now) (N.model line.old).transcript result (N.model line.new).transcript }
     {
         if self.over {
@@ -106,6 +108,7 @@ impl Reader {
         match advance(&mut self.pending, &mut self.lines, line, store) {
             Ok(Found::Head(spans)) => {
                 let taken = take_message(
+                    limit,
                     &mut self.pending,
                     &mut self.partial,
                     &self.lines,

@@ -3,8 +3,8 @@ ghost use Rattle.std.specs.Prelude.{true, false, ◌≡◌, ◌≤◌, ◌<◌, 
 ghost use Rattle.gate_base.specs.Line.{LineServes, OnlyReads};
 ghost use Rattle.httparse.specs.Grammar.{RequestHead};
 ghost use Rattle.httparse.specs.Spans.{IsRequestAt, IsRequestWithin};
-ghost use Rattle.http_wire.specs.FirstMessage.{is_head, judge, message_of};
-ghost use Rattle.http_wire.specs.Interim.{is_owed, SendsOn};
+ghost use Rattle.http_wire.specs.FirstMessage.{is_head, message_of};
+ghost use Rattle.http_wire.specs.Interim.{is_owed, owed_by, SendsOn};
 ghost use Rattle.http_wire.specs.declared.take.Taken.TheVariants.{Not};
 ghost use Rattle.http_wire.specs.Seen.{window};
 ghost use Rattle.http_wire.specs.Taken.{BodyFrom, OnWhole, TakenFrom};
@@ -24,6 +24,10 @@ use std::mem::replace;
 /// The bytes that one read asks for while a body is read, at most. Each byte of the room for them is made once.
 const PIECE: usize = 65_536;
 
+/// The bytes of a body that room is made for before they come, at most. Behind these the room grows with what comes, so that a
+/// length alone takes no memory.
+const AHEAD: usize = 16_777_216;
+
 /// What a whole head gives.
 #[derive(Debug, Drop)]
 pub(crate) enum Taken {
@@ -34,10 +38,11 @@ pub(crate) enum Taken {
     Not { kind: Kind, head: bool },
 }
 
-/// Takes the message of a whole head, with its body, and the bytes of both away. The interim line is written before the
-/// body, where the head asks for it. Where the request is refused, and without an answer, no byte is lost: what came of
+/// Takes the message of a whole head, with its body of at most `limit` bytes, and the bytes of both away. The interim line is
+/// written before the body, where the head asks for it. Where the request is refused, and without an answer, no byte is lost: what came of
 /// the body stays in `partial`, behind what stays in `pending`.
 pub(crate) fn take_message<N: Line<C>, C: Counted>(
+    limit: u64,
     pending: &mut Vec<u8>,
     partial: &mut Vec<u8>,
     lines: &[HeaderSpan],
@@ -51,7 +56,7 @@ pub(crate) fn take_message<N: Line<C>, C: Counted>(
     ensures line { LineServes (is_failed_read result) (N.model line.old) (N.model line.new) }
     ensures sent { IsTrue (N.model line.old).observable → (h : RequestHead)
         → IsRequestAt (window pending.old.items) lines.now spans.now h
-        → SendsOn (is_owed (message_of h) ≡ true) (C.called store.now) (N.model line.old).transcript
+        → SendsOn (is_owed limit (message_of h) ≡ true) (C.called store.now) (N.model line.old).transcript
         result (N.model line.new).transcript }
     ensures none { IfOk result (OnWhole (partial.new.items ≡ [])) }
     ensures fewer { IfOk result
@@ -59,7 +64,7 @@ pub(crate) fn take_message<N: Line<C>, C: Counted>(
     ensures effect { IsTrue (N.model line.old).observable
         → IfOk result (λ taken. (h : RequestHead)
         → IsRequestAt (window pending.old.items) lines.now spans.now h
-        → TakenFrom (pending.old.items ++ (N.model line.old).transcript.rest) h spans.now.len taken
+        → TakenFrom limit (pending.old.items ++ (N.model line.old).transcript.rest) h spans.now.len taken
         ((pending.new.items ++ partial.new.items) ++ (N.model line.new).transcript.rest)) }
     ensures effect_err { IsTrue (N.model line.old).observable
         → OnErr result ((pending.new.items ++ partial.new.items)
@@ -68,7 +73,7 @@ pub(crate) fn take_message<N: Line<C>, C: Counted>(
 {
     let alloc = *pending.allocator();
     let mut message = message_at_head_spans(alloc, window(pending), lines, spans)?;
-    let size = match judge(&message) {
+    let size = match judge(limit, &message) {
         Ok(size) => size,
         Err(kind) => return Ok(request_not_taken(kind, message)),
     };
@@ -108,12 +113,11 @@ fn take_offered<N: Line<C>, C: Counted>(
     store: &C,
 ) -> Result<bool, ReadFault>
     requires open { IsTrue (N.model line.old).is_open }
-    requires judged { judge message.now ≡ Ok size }
     requires within { start ≤ length pending.old.items }
     requires none { body.old.items ≡ [] }
     ensures line { LineServes (is_failed_read result) (N.model line.old) (N.model line.new) }
     ensures sent { IsTrue (N.model line.old).observable
-        → SendsOn (is_owed message.now ≡ true) (C.called store.now) (N.model line.old).transcript
+        → SendsOn (owed_by message.now (Ok size) ≡ true) (C.called store.now) (N.model line.old).transcript
         result (N.model line.new).transcript }
     ensures fewer { IfOk result
         (λ whole. IsTrue whole → length pending.new.items + start ≤ length pending.old.items) }
@@ -172,7 +176,7 @@ fn take_request_body<N: Line<C>, C: Counted>(
     Ok(true)
 }
 
-/// Makes room for a body of `size` bytes, and moves into it what came of it already, behind the first `start` bytes.
+/// Makes room for the beginning of a body of `size` bytes, and moves into it what came of it already, behind the first `start` bytes.
 fn begin_request_body(
     pending: &mut Vec<u8>,
     body: &mut Vec<u8>,
@@ -185,7 +189,7 @@ fn begin_request_body(
         × (body.new.items ≡ drop start pending.old.items)) }
     ensures err { OnErr result ((pending.new.items ≡ pending.old.items) × (body.new.items ≡ [])) }
 {
-    body.reserve(size)?;
+    body.reserve(size.min(AHEAD))?;
     body.extend_from_slice(&pending[start..])?;
     pending.truncate(start);
     Ok(())

@@ -25,6 +25,7 @@ pub record Rolls : Type 0 where
   pub more : Bool
   pub last : List ℕ
 
+-- an item as a row: its text, and of an object its head
 abbrev pub row_view : Item → List ℕ × Option ItemHead
 row_view item = (item.text, item.object)
 

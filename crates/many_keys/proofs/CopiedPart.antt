@@ -10,14 +10,16 @@ use Rattle.std.proofs.Math.Seq.{take-length}
 use Rattle.gate_base.specs.Maps.{adjust}
 use Rattle.gate_base.specs.Told.{moment_limit}
 use Rattle.s3_names.specs.Bucket.{is_bucket}
-use Rattle.s3_machine.specs.Copies.{copied_span, has_last}
+use Rattle.s3_machine.specs.declared.reading.Conditions.{Conditions}
+use Rattle.s3_machine.specs.Conditions.{no_conditions}
+use Rattle.s3_machine.specs.Copies.{copied_span, has_last, may_be_copied}
 use Rattle.s3_machine.specs.ETag.{body_etag}
-use Rattle.s3_machine.specs.Limits.{most_body_bytes}
+use Rattle.s3_machine.specs.Limits.{body_limit}
 use Rattle.s3_machine.specs.Reading.{taken}
 use Rattle.s3_machine.specs.State.{Bucket, Object, State}
 use Rattle.s3_machine.specs.Step.{S3Step, IsProperCopyRange, copies_bytes, copies_part, head_of, in_source}
 use Rattle.s3_machine.specs.Uploads.{new_part, on_upload, with_part}
-use Rattle.s3_machine.specs.declared.code.Code.TheVariants.{NoSuchBucket, NoSuchKey, NoSuchUpload, InvalidRange, EntityTooLarge}
+use Rattle.s3_machine.specs.declared.code.Code.TheVariants.{NoSuchBucket, NoSuchKey, NoSuchUpload, PreconditionFailed, InvalidRange, EntityTooLarge}
 use Rattle.s3_machine.specs.declared.operation.Label.{Label}
 use Rattle.s3_machine.specs.declared.operation.ObjectHead.{ObjectHead}
 use Rattle.s3_machine.specs.declared.operation.Settings.{Settings}
@@ -26,7 +28,8 @@ use Rattle.s3_machine.specs.declared.operation.Op.TheVariants.{CopyPart}
 use Rattle.s3_machine.specs.declared.operation.Reply.{Reply}
 use Rattle.s3_machine.specs.declared.operation.Reply.TheVariants as reply
 use Rattle.s3_machine.specs.declared.reading.Span.{Span}
-use Rattle.s3_machine.proofs.lemmas.StepLemmas.{HasSource, HasUpload, steps, in_found, part_copy_without_bucket, part_copy_without_source_bucket, part_copy_without_source, part_copy_past_end, part_copy_too_large, step_part_copied}
+use Rattle.s3_machine.proofs.lemmas.CopyConditions.{part_copy_as_without}
+use Rattle.s3_machine.proofs.lemmas.StepLemmas.{HasSource, HasUpload, steps, in_found, part_copy_held, part_copy_without_bucket, part_copy_without_source_bucket, part_copy_without_source, part_copy_past_end, part_copy_too_large, step_part_copied}
 use Rattle.swift_calls.specs.Account.{SwiftAccount, files}
 use Rattle.swift_calls.specs.Bodies.{ranged}
 use Rattle.swift_calls.specs.History.{History}
@@ -68,11 +71,11 @@ pub same_length : {here span : Span} → here ≡ span → here.length ≡ span.
 same_length is = ap (λ (s : Span). s.length) is
 
 -- as many bytes as a body may have aren't too many
-pub not_large : (wanted n : ℕ) → wanted ≡ n → wanted ≤ most_body_bytes → nat_lt most_body_bytes n ≡ false
-not_large wanted n is most = grind (arith, nat_tests)
+pub not_large : (limit wanted n : ℕ) → wanted ≡ n → wanted ≤ limit → nat_lt limit n ≡ false
+not_large limit wanted n is most = grind (arith, nat_tests)
 
-pub too_large : (wanted n : ℕ) → wanted ≡ n → most_body_bytes < wanted → nat_lt most_body_bytes n ≡ true
-too_large wanted n is more = grind (arith, nat_tests)
+pub too_large : (limit most wanted n : ℕ) → limit ≡ most → wanted ≡ n → limit < wanted → nat_lt most n ≡ true
+too_large limit most wanted n same is more = grind (arith, nat_tests)
 
 -- ---- the source
 
@@ -107,41 +110,65 @@ never e = cc
 
 -- ---- the steps
 
-module _ (settings : Settings) (bucket key text : List ℕ) (number : ℕ) (from_bucket from_key : List ℕ) (range : Option (ℕ × ℕ)) (label : Label) where
-  abbrev copying : Op
-  copying = CopyPart bucket key text number from_bucket from_key range
+-- the upload of an id that was found
+opened_in : {bucket key text : List ℕ} {id : ℕ} {tree : SwiftAccount} → is_bucket bucket ≡ true → IsOpenUpload bucket key text id tree → HasUpload (s3_state tree) bucket key text
+opened_in {bucket = bucket} {key = key} {text = text} {id = id} {tree = tree} is opened = (has_upload bucket key text id tree is opened).has
+
+module _ (settings : Settings) (bucket key text : List ℕ) (number : ℕ) (from_bucket from_key : List ℕ) (range : Option (ℕ × ℕ)) (conditions : Conditions) (label : Label) where
+  abbrev copying_under : Op
+  copying_under = CopyPart bucket key text number from_bucket from_key range conditions
 
   -- the bucket is missing
-  pub copy_missing : (state : State) → LacksBucket bucket state → S3Step settings state copying label (reply.Refused NoSuchBucket) state
-  copy_missing state missing = part_copy_without_bucket settings state bucket key text number from_bucket from_key range label missing
+  pub copy_missing : (state : State) → LacksBucket bucket state → S3Step settings state copying_under label (reply.Refused NoSuchBucket) state
+  copy_missing state missing = part_copy_without_bucket settings state bucket key text number from_bucket from_key range conditions label missing
 
   module _ (tree : SwiftAccount) (is : is_bucket bucket ≡ true) where
     -- no upload is open
-    pub copy_lost : LacksUpload bucket key text tree → S3Step settings (s3_state tree) copying label (reply.Refused NoSuchUpload) (s3_state tree)
+    pub copy_lost : LacksUpload bucket key text tree → S3Step settings (s3_state tree) copying_under label (reply.Refused NoSuchUpload) (s3_state tree)
     copy_lost lacks =
         let it = bucket_there tree bucket is lacks.settled lacks.there in
         let b : Bucket = bucket_from (files tree (uploads_name bucket)) (files tree (segments_name bucket)) it.folder in
         steps _ _ 0 tt
-        (in_found (s3_state tree) bucket b it.is (copies_part (s3_state tree) bucket key text number from_bucket from_key range label.moment)
-        ∙ no_upload bucket key text tree is lacks (λ u. in_source (s3_state tree) from_bucket from_key (copies_bytes (s3_state tree) bucket text number range label.moment) b))
+        (in_found (s3_state tree) bucket b it.is (copies_part settings (s3_state tree) bucket key text number from_bucket from_key range conditions label.moment)
+        ∙ no_upload bucket key text tree is lacks (λ u. in_source (s3_state tree) from_bucket from_key conditions (copies_bytes settings (s3_state tree) bucket text number range label.moment) b))
 
     module _ (id : ℕ) where
-      opened_in : IsOpenUpload bucket key text id tree → HasUpload (s3_state tree) bucket key text
-      opened_in opened = (has_upload bucket key text id tree is opened).has
-
       -- the bucket of the source is missing
-      pub copy_of_no_bucket : IsOpenUpload bucket key text id tree → TellsBucket from_bucket (s3_state tree) None → S3Step settings (s3_state tree) copying label (reply.Refused NoSuchBucket) (s3_state tree)
+      pub copy_of_no_bucket : IsOpenUpload bucket key text id tree → TellsBucket from_bucket (s3_state tree) None → S3Step settings (s3_state tree) copying_under label (reply.Refused NoSuchBucket) (s3_state tree)
       copy_of_no_bucket opened none =
-          part_copy_without_source_bucket settings (s3_state tree) bucket key text number from_bucket from_key range label (opened_in opened) (lacks_of from_bucket (s3_state tree) none)
+          part_copy_without_source_bucket settings (s3_state tree) bucket key text number from_bucket from_key range conditions label (opened_in is opened) (lacks_of from_bucket (s3_state tree) none)
 
       -- the source itself is missing
-      pub copy_of_none : MayCopyFrom bucket key text id from_bucket tree → TellsObject from_bucket from_key (s3_state tree) None → S3Step settings (s3_state tree) copying label (reply.Refused NoSuchKey) (s3_state tree)
+      pub copy_of_none : MayCopyFrom bucket key text id from_bucket tree → TellsObject from_bucket from_key (s3_state tree) None → S3Step settings (s3_state tree) copying_under label (reply.Refused NoSuchKey) (s3_state tree)
       copy_of_none may none =
           let it = bucket_by (get (s3_state tree) from_bucket) may.from.0 may.from.1 in
-          part_copy_without_source settings (s3_state tree) bucket key text number from_bucket from_key range label (opened_in may.opened) it.0 it.1
+          part_copy_without_source settings (s3_state tree) bucket key text number from_bucket from_key range conditions label (opened_in is may.opened) it.0 it.1
           (sym (ap (λ o. object_at o from_key) it.1) ∙ no_source (object_at (get (s3_state tree) from_bucket) from_key) none)
 
-      -- it is there
+      module _ (head : ObjectHead) (may : MayCopyOf bucket key text id from_bucket from_key head tree) where
+        abbrev told_source : (x : Object) × (object_at (get (s3_state tree) from_bucket) from_key ≡ Some x) × (head_of x ≡ head)
+        told_source = source_by (object_at (get (s3_state tree) from_bucket) from_key) head may.source
+
+        -- it doesn't meet the conditions
+        pub copy_refused : may_be_copied conditions head ≡ false → S3Step settings (s3_state tree) copying_under label (reply.Refused PreconditionFailed) (s3_state tree)
+        copy_refused held =
+            part_copy_held settings (s3_state tree) bucket key text number from_bucket from_key range conditions label (opened_in is may.opened)
+            (source_there (s3_state tree) from_bucket from_key told_source.0 told_source.1) (ap (may_be_copied conditions) told_source.2 ∙ held)
+
+        -- it meets them, so the copy is the one without any
+        pub copied_under : may_be_copied conditions head ≡ true → (answer : Reply) (new : State)
+            → S3Step settings (s3_state tree) (CopyPart bucket key text number from_bucket from_key range no_conditions) label answer new → S3Step settings (s3_state tree) copying_under label answer new
+        copied_under met answer new does =
+            part_copy_as_without settings (s3_state tree) bucket key from_bucket from_key conditions label
+            (source_there (s3_state tree) from_bucket from_key told_source.0 told_source.1) (ap (may_be_copied conditions) told_source.2 ∙ met) text number range does
+
+module _ (settings : Settings) (bucket key text : List ℕ) (number : ℕ) (from_bucket from_key : List ℕ) (range : Option (ℕ × ℕ)) (label : Label) where
+  abbrev copying : Op
+  copying = CopyPart bucket key text number from_bucket from_key range no_conditions
+
+  module _ (tree : SwiftAccount) (is : is_bucket bucket ≡ true) where
+    module _ (id : ℕ) where
+      -- the source is there
       module _ (head : ObjectHead) (may : MayCopyOf bucket key text id from_bucket from_key head tree) where
         found : (x : Object) × (object_at (get (s3_state tree) from_bucket) from_key ≡ Some x) × (head_of x ≡ head)
         found = source_by (object_at (get (s3_state tree) from_bucket) from_key) head may.source
@@ -155,21 +182,24 @@ module _ (settings : Settings) (bucket key text : List ℕ) (number : ℕ) (from
         last_is : (t : Bool) → has_last range head.size ≡ t → has_last range (length found.0.bytes) ≡ t
         last_is t e = ap (has_last range) size_is ∙ e
 
-        large_is : (t : Bool) → nat_lt most_body_bytes (copied_span range head.size).length ≡ t → nat_lt most_body_bytes (copied_span range (length found.0.bytes)).length ≡ t
-        large_is t e = ap (λ n. nat_lt most_body_bytes (copied_span range n).length) size_is ∙ e
+        large_is : (t : Bool) → nat_lt (body_limit settings) (copied_span range head.size).length ≡ t → nat_lt (body_limit settings) (copied_span range (length found.0.bytes)).length ≡ t
+        large_is t e = ap (λ n. nat_lt (body_limit settings) (copied_span range n).length) size_is ∙ e
 
         pub copy_past_end : has_last range head.size ≡ false → S3Step settings (s3_state tree) copying label (reply.Refused InvalidRange) (s3_state tree)
-        copy_past_end e = part_copy_past_end settings (s3_state tree) bucket key text number from_bucket from_key range label (opened_in may.opened) source (last_is false e)
+        copy_past_end e = part_copy_past_end settings (s3_state tree) bucket key text number from_bucket from_key range no_conditions label (opened_in is may.opened) source refl (last_is false e)
 
         module _ (ends : has_last range head.size ≡ true) where
-          pub copy_too_large : nat_lt most_body_bytes (copied_span range head.size).length ≡ true → S3Step settings (s3_state tree) copying label (reply.Refused EntityTooLarge) (s3_state tree)
-          copy_too_large large = part_copy_too_large settings (s3_state tree) bucket key text number from_bucket from_key range label (opened_in may.opened) source (last_is true ends) (large_is true large)
+          pub copy_too_large : nat_lt (body_limit settings) (copied_span range head.size).length ≡ true → S3Step settings (s3_state tree) copying label (reply.Refused EntityTooLarge) (s3_state tree)
+          copy_too_large large = part_copy_too_large settings (s3_state tree) bucket key text number from_bucket from_key range no_conditions label (opened_in is may.opened) source refl (last_is true ends) (large_is true large)
 
-          module _ (small : nat_lt most_body_bytes (copied_span range head.size).length ≡ false) where
+          module _ (proper : IfSome range IsProperCopyRange) where
+            counted_of : (body : List ℕ) → body ≡ taken (copied_span range (length found.0.bytes)) found.0.bytes → length body ≡ (copied_span range (length found.0.bytes)).length
+            counted_of body are = ap length are ∙ copied_sized found.0.bytes range proper (last_is true ends)
+
             may_put : (body : List ℕ) → body ≡ taken (copied_span range (length found.0.bytes)) found.0.bytes → MayPutCopy bucket key text id from_bucket from_key range body tree
             may_put body are = record {
               opened = may.opened;
-              bytes = record { object = found.0; there = found.1; ends = last_is true ends; sized = large_is false small; are = are };
+              bytes = record { object = found.0; there = found.1; ends = last_is true ends; are = are; counted = counted_of body are };
             }
 
             -- no byte of it is wanted
@@ -177,33 +207,32 @@ module _ (settings : Settings) (bucket key text : List ℕ) (number : ℕ) (from
             copy_is_empty none =
                 may_put [] (sym (ap (λ n. take n (drop (copied_span range (length found.0.bytes)).from found.0.bytes)) (ap (λ n. (copied_span range n).length) size_is ∙ none)))
 
-            module _ (proper : IfSome range IsProperCopyRange) where
-              told_copy : option_and_then (ranged range) (option_map bytes_in (object_at (get (s3_state tree) from_bucket) from_key)) ≡ Some (taken (copied_span range (length found.0.bytes)) found.0.bytes)
-              told_copy = ap (λ o. option_and_then (ranged range) (option_map bytes_in o)) found.1 ∙ copied_told found.0.bytes range proper (last_is true ends)
+            told_copy : option_and_then (ranged range) (option_map bytes_in (object_at (get (s3_state tree) from_bucket) from_key)) ≡ Some (taken (copied_span range (length found.0.bytes)) found.0.bytes)
+            told_copy = ap (λ o. option_and_then (ranged range) (option_map bytes_in o)) found.1 ∙ copied_told found.0.bytes range proper (last_is true ends)
 
-              pub not_gone : TellsBytes from_bucket from_key range (s3_state tree) None → ⊥
-              not_gone none = never (sym told_copy ∙ none)
+            pub not_gone : TellsBytes from_bucket from_key range (s3_state tree) None → ⊥
+            not_gone none = never (sym told_copy ∙ none)
 
-              module _ (body : List ℕ) (told : TellsBytes from_bucket from_key range (s3_state tree) (Some body)) where
-                same_bytes : body ≡ taken (copied_span range (length found.0.bytes)) found.0.bytes
-                same_bytes = sym (some_same (sym told_copy ∙ told))
+            module _ (body : List ℕ) (told : TellsBytes from_bucket from_key range (s3_state tree) (Some body)) where
+              same_bytes : body ≡ taken (copied_span range (length found.0.bytes)) found.0.bytes
+              same_bytes = sym (some_same (sym told_copy ∙ told))
 
-                -- the bytes that the store tells are as many as are wanted, and the part may be put with them
-                pub as_wanted : length body ≡ (copied_span range head.size).length
-                as_wanted = ap length same_bytes ∙ copied_sized found.0.bytes range proper (last_is true ends) ∙ ap (λ n. (copied_span range n).length) size_is
+              -- the bytes that the store tells are as many as are wanted, and the part may be put with them
+              pub as_wanted : length body ≡ (copied_span range head.size).length
+              as_wanted = counted_of body same_bytes ∙ ap (λ n. (copied_span range n).length) size_is
 
-                pub copy_is_told : MayPutCopy bucket key text id from_bucket from_key range body tree
-                copy_is_told = may_put body same_bytes
+              pub copy_is_told : MayPutCopy bucket key text id from_bucket from_key range body tree
+              copy_is_told = may_put body same_bytes
 
       -- the part is put
-      pub copy_stored : (body etag : List ℕ) → etag ≡ body_etag body → MayPutCopy bucket key text id from_bucket from_key range body tree
+      pub copy_stored : (body etag : List ℕ) → etag ≡ body_etag body → length body ≤ body_limit settings → MayPutCopy bucket key text id from_bucket from_key range body tree
           → S3Step settings (s3_state tree) copying label (reply.Copied true etag label.moment) (records.puts_part bucket id number body label.moment (s3_state tree))
-      copy_stored body etag same may =
+      copy_stored body etag same small may =
           subst (λ e. S3Step settings (s3_state tree) copying label (reply.Copied true e label.moment) (records.puts_part bucket id number body label.moment (s3_state tree))) (sym same)
           (subst (λ b. S3Step settings (s3_state tree) copying label (reply.Copied true (body_etag b) label.moment) (records.puts_part bucket id number b label.moment (s3_state tree))) (sym may.bytes.are)
           (subst (λ t. S3Step settings (s3_state tree) copying label (reply.Copied true (body_etag bytes) label.moment) (adjust bucket (on_upload t (with_part number (new_part label.moment bytes))) (s3_state tree))) may.opened.is
-          (step_part_copied settings (s3_state tree) bucket key text number from_bucket from_key range label (opened_in may.opened)
-          (source_there (s3_state tree) from_bucket from_key may.bytes.object may.bytes.there) may.bytes.ends may.bytes.sized)))
+          (step_part_copied settings (s3_state tree) bucket key text number from_bucket from_key range no_conditions label (opened_in is may.opened)
+          (source_there (s3_state tree) from_bucket from_key may.bytes.object may.bytes.there) refl may.bytes.ends (not_large (body_limit settings) (length body) _ may.bytes.counted small))))
         where
           bytes : List ℕ
           bytes = taken (copied_span range (length may.bytes.object.bytes)) may.bytes.object.bytes

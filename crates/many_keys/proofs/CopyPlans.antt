@@ -12,6 +12,7 @@ use Rattle.s3_names.specs.declared.acl.Acl.{Acl}
 use Rattle.s3_names.specs.Bucket.{is_bucket}
 use Rattle.s3_names.specs.Id.{id_digits}
 use Rattle.s3_names.specs.Meta.{names_ascend}
+use Rattle.s3_machine.specs.Conditions.{no_conditions}
 use Rattle.s3_machine.specs.Copies.{copied, is_onto_itself}
 use Rattle.s3_machine.specs.State.{Object}
 use Rattle.s3_machine.specs.Step.{IsPlace, IsProperReplaced, head_of, is_other_acl}
@@ -250,13 +251,13 @@ asked_in_vain {T = T} m within {f = f} under asks end is = calls_in_vain {P = λ
 abbrev pub PutsListed : History → History → Settings → Result Reply PlanFault → Sealed → Type 0
 PutsListed b c now end s = (acl : Option Acl) (list : Acl) (from_bucket from_key : List ℕ) (replaced : Option Replaced) (label : Label) → is_other_acl acl list ≡ false
     → is_onto_itself s.bucket s.key from_bucket from_key replaced ≡ false → s.moment ≡ label.moment
-    → Plans (always 1) b c now (GivenOf (MayPut list from_bucket from_key replaced s (sealed_sub_manifests s))) (CopyObject s.bucket s.key acl from_bucket from_key replaced) label Settled end
+    → Plans (always 1) b c now (GivenOf (MayPut list from_bucket from_key replaced s (sealed_sub_manifests s))) (CopyObject s.bucket s.key acl from_bucket from_key replaced no_conditions) label Settled end
 
 -- and that with the sub-manifests before it
 abbrev pub PutsParts : History → History → Settings → Result Reply PlanFault → Sealed → Type 0
 PutsParts b c now end s = (acl : Option Acl) (list : Acl) (from_bucket from_key : List ℕ) (replaced : Option Replaced) (label : Label) → is_other_acl acl list ≡ false
     → is_onto_itself s.bucket s.key from_bucket from_key replaced ≡ false → s.moment ≡ label.moment
-    → Plans (always (sealed_sub_manifests s + 1)) b c now (GivenOf (MayPut list from_bucket from_key replaced s 0)) (CopyObject s.bucket s.key acl from_bucket from_key replaced) label Settled end
+    → Plans (always (sealed_sub_manifests s + 1)) b c now (GivenOf (MayPut list from_bucket from_key replaced s 0)) (CopyObject s.bucket s.key acl from_bucket from_key replaced no_conditions) label Settled end
 
 abbrev Found : List ℕ → Acl → List ℕ → List ℕ → ObjectHead → SwiftAccount → Type 0
 Found bucket list from_bucket from_key head tree = IsFoundSource bucket list from_bucket from_key head (s3_state tree)
@@ -373,8 +374,8 @@ may_put_of tree may = may.copy.stands
 module _ (s : Sealed) {settings : Settings} (acl : Option Acl) (list : Acl) (from_bucket from_key : List ℕ) (replaced : Option Replaced) (label : Label) where
   -- they were put, and the copy's file is
   pub subs_go_on : {a b c : History} {now : Settings} {end : Result Reply PlanFault} → now ≡ settings → Asks (always (sealed_sub_manifests s)) a b (GivenOf (HasCopied s 0)) (LeavesCopied s (sealed_sub_manifests s)) (Ok tt)
-      → Plans (always 1) b c now (GivenOf (MayPut list from_bucket from_key replaced s (sealed_sub_manifests s))) (CopyObject s.bucket s.key acl from_bucket from_key replaced) label Settled end
-      → Plans (always (sealed_sub_manifests s + 1)) a c settings (GivenOf (MayPut list from_bucket from_key replaced s 0)) (CopyObject s.bucket s.key acl from_bucket from_key replaced) label Settled end
+      → Plans (always 1) b c now (GivenOf (MayPut list from_bucket from_key replaced s (sealed_sub_manifests s))) (CopyObject s.bucket s.key acl from_bucket from_key replaced no_conditions) label Settled end
+      → Plans (always (sealed_sub_manifests s + 1)) a c settings (GivenOf (MayPut list from_bucket from_key replaced s 0)) (CopyObject s.bucket s.key acl from_bucket from_key replaced no_conditions) label Settled end
   unfolding with_bytes
   subs_go_on kept asks plans =
       goes_on_from {given = MayPut list from_bucket from_key replaced s 0} (met_within may_put_of) kept (asks_same_state asks) plans
@@ -391,7 +392,7 @@ module _ (s : Sealed) {settings : Settings} (acl : Option Acl) (list : Acl) (fro
 
   -- they weren't
   pub subs_in_vain : {a b : History} {f : PlanFault} → Asks (always (sealed_sub_manifests s)) a b (GivenOf (HasCopied s 0)) (LeavesCopied s (sealed_sub_manifests s)) (Err f) → (end : Result Reply PlanFault) → IsErrAnd end (λ e. e ≡ f)
-      → Plans (always (sealed_sub_manifests s + 1)) a b settings (GivenOf (MayPut list from_bucket from_key replaced s 0)) (CopyObject s.bucket s.key acl from_bucket from_key replaced) label Settled end
+      → Plans (always (sealed_sub_manifests s + 1)) a b settings (GivenOf (MayPut list from_bucket from_key replaced s 0)) (CopyObject s.bucket s.key acl from_bucket from_key replaced no_conditions) label Settled end
   subs_in_vain asks end is = asked_in_vain (always (sealed_sub_manifests s)) (omega arith) (met_within may_put_of) asks end is
 
 -- ---- the last call
@@ -403,7 +404,7 @@ module _ (bucket key from_bucket from_key : List ℕ) (acl : Option Acl) (list :
       → AreOfCut walked parts
       → Asks (always (2 * length walked)) a b (GivenOf (MayCopy bucket id from_bucket cut.id walked)) (CopiesFirst bucket id from_bucket cut.id walked label.moment) (Ok parts)
       → s ≡ sealed_copy bucket key id replaced head parts label.moment → PutsParts b c now end s
-      → Plans (always (2 * length cut.pieces + (sub_manifests (length cut.pieces) + 1))) a c settings (GivenOf (MayFillCut bucket list id from_bucket from_key head cut)) (CopyObject bucket key acl from_bucket from_key replaced) label Settled end
+      → Plans (always (2 * length cut.pieces + (sub_manifests (length cut.pieces) + 1))) a c settings (GivenOf (MayFillCut bucket list id from_bucket from_key head cut)) (CopyObject bucket key acl from_bucket from_key replaced no_conditions) label Settled end
   copy_goes_on {id = id} cut {walked = walked} {a = a} {b = b} {c = c} {now = now} parts {end = end} same kept are asks e puts =
       let here : Asks (always (2 * length cut.pieces)) a b (GivenOf (MayCopy bucket id from_bucket cut.id cut.pieces)) (CopiesFirst bucket id from_bucket cut.id cut.pieces label.moment) (Ok parts)
       = subst (λ l. Asks (always (2 * length l)) a b (GivenOf (MayCopy bucket id from_bucket cut.id l)) (CopiesFirst bucket id from_bucket cut.id l label.moment) (Ok parts)) same asks in
@@ -415,7 +416,7 @@ module _ (bucket key from_bucket from_key : List ℕ) (acl : Option Acl) (list :
   pub id_puts : {draw n id : ℕ} {a b c : History} {now : Settings} {s : Sealed} (parts : List SealedPart) {end : Result Reply PlanFault} → UnusedIsAbandoned → is_bucket bucket ≡ true → now ≡ settings
       → Asks (by_account n) a b (GivenOf (InBucket bucket)) (TellsOf (TellsFree bucket draw)) (Ok id) → head.size ≡ 0 → parts ≡ []
       → s ≡ sealed_copy bucket key id replaced head parts label.moment → PutsListed b c now end s
-      → Plans (by_account (n + 1)) a c settings (Given (IsFoundSource bucket list from_bucket from_key head)) (CopyObject bucket key acl from_bucket from_key replaced) label Settled end
+      → Plans (by_account (n + 1)) a c settings (Given (IsFoundSource bucket list from_bucket from_key head)) (CopyObject bucket key acl from_bucket from_key replaced no_conditions) label Settled end
   id_puts {id = id} {b = b} {c = c} {now = now} parts {end = end} law is kept asks empty none e puts =
       goes_on_from {given = Found bucket list from_bucket from_key head} (λ met. met) kept (asks_unnamed law is asks) (subst (PutsListed b c now end) e puts acl list from_bucket from_key replaced label other onto refl)
       (λ found told. empty_may_put bucket key list id from_bucket from_key replaced head parts label.moment _ empty none (fill_after found told)) (λ told. omega arith)

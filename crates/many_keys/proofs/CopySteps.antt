@@ -6,7 +6,7 @@ use Rattle.std.proofs.Common.{refl, sym, ap, subst, ◌∙◌, arith}
 use Rattle.std.proofs.lemmas.Bool.{lt-ltb}
 use Rattle.gate_base.specs.Maps.{adjust}
 use Rattle.s3_names.specs.declared.acl.Acl.{Acl}
-use Rattle.s3_machine.specs.declared.code.Code.TheVariants.{InvalidRequest, NoSuchBucket, NoSuchKey, NotImplemented}
+use Rattle.s3_machine.specs.declared.code.Code.TheVariants.{InvalidRequest, NoSuchBucket, NoSuchKey, NotImplemented, PreconditionFailed}
 use Rattle.s3_machine.specs.declared.operation.Label.{Label}
 use Rattle.s3_machine.specs.declared.operation.ObjectHead.{ObjectHead}
 use Rattle.s3_machine.specs.declared.operation.Op.TheVariants.{CopyObject}
@@ -14,11 +14,14 @@ use Rattle.s3_machine.specs.declared.operation.Replaced.{Replaced}
 use Rattle.s3_machine.specs.declared.operation.Reply.{Reply}
 use Rattle.s3_machine.specs.declared.operation.Reply.TheVariants.{Copied, Refused}
 use Rattle.s3_machine.specs.declared.operation.Settings.{Settings}
-use Rattle.s3_machine.specs.Copies.{copied, is_onto_itself}
+use Rattle.s3_machine.specs.declared.reading.Conditions.{Conditions}
+use Rattle.s3_machine.specs.Conditions.{no_conditions}
+use Rattle.s3_machine.specs.Copies.{copied, is_onto_itself, may_be_copied}
 use Rattle.s3_machine.specs.ETag.{body_etag}
 use Rattle.s3_machine.specs.State.{Bucket, Object, State}
 use Rattle.s3_machine.specs.Step.{S3Step, head_of, is_other_acl, new_object, put_object}
-use Rattle.s3_machine.proofs.lemmas.StepLemmas.{HasSource, copy_onto_itself, copy_with_another_acl, copy_without_bucket, copy_without_source, copy_without_source_bucket, step_copied}
+use Rattle.s3_machine.proofs.lemmas.CopyConditions.{copy_as_without}
+use Rattle.s3_machine.proofs.lemmas.StepLemmas.{HasSource, copy_held, copy_onto_itself, copy_with_another_acl, copy_without_bucket, copy_without_source, copy_without_source_bucket, step_copied}
 use Rattle.swift_calls.specs.Account.{SwiftAccount}
 use Rattle.swift_calls.specs.History.{History, present}
 use Rattle.upload_records.specs.Native.{object_at, s3_state}
@@ -63,43 +66,73 @@ copied_is (Some r) moment o is = ap (λ etag. record { bytes = o.bytes; etag = e
 
 -- ---- the steps
 
-module _ (settings : Settings) (state : State) (bucket key : List ℕ) (acl : Option Acl) (from_bucket from_key : List ℕ) (replaced : Option Replaced) (label : Label) where
-  abbrev Copies : Reply → State → Type 0
-  Copies reply new = S3Step settings state (CopyObject bucket key acl from_bucket from_key replaced) label reply new
+-- the access control list of a bucket that is there
+other_by : (o : Option Bucket) (acl : Option Acl) (list : Acl) (told : option_map acl_of_bucket o ≡ Some list) (t : Bool) → is_other_acl acl list ≡ t → is_other_acl acl (bucket_by o list told).0.acl ≡ t
+other_by o acl list told t e = ap (is_other_acl acl) (bucket_by o list told).2 ∙ e
 
-  pub copy_missing : TellsBucket bucket state None → Copies (Refused NoSuchBucket) state
-  copy_missing told = copy_without_bucket settings state bucket key acl from_bucket from_key replaced label (none_by (get state bucket) told)
+module _ (settings : Settings) (state : State) (bucket key : List ℕ) (acl : Option Acl) (from_bucket from_key : List ℕ) (replaced : Option Replaced) (conditions : Conditions) (label : Label) where
+  abbrev CopiesUnder : Reply → State → Type 0
+  CopiesUnder reply new = S3Step settings state (CopyObject bucket key acl from_bucket from_key replaced conditions) label reply new
 
-  module _ (list : Acl) (told : TellsBucket bucket state (Some list)) where
-    it : (b : Bucket) × (get state bucket ≡ Some b) × (b.acl ≡ list)
-    it = bucket_by (get state bucket) list told
+  pub copy_missing : TellsBucket bucket state None → CopiesUnder (Refused NoSuchBucket) state
+  copy_missing told = copy_without_bucket settings state bucket key acl from_bucket from_key replaced conditions label (none_by (get state bucket) told)
 
-    other_by : (t : Bool) → is_other_acl acl list ≡ t → is_other_acl acl it.0.acl ≡ t
-    other_by t e = ap (is_other_acl acl) it.2 ∙ e
+  pub copy_other : (list : Acl) → TellsBucket bucket state (Some list) → is_other_acl acl list ≡ true → CopiesUnder (Refused NotImplemented) state
+  copy_other list told e =
+      let b = bucket_by (get state bucket) list told in
+      copy_with_another_acl settings state bucket key acl from_bucket from_key replaced conditions label b.0 b.1 (other_by (get state bucket) acl list told true e)
 
-    pub copy_other : is_other_acl acl list ≡ true → Copies (Refused NotImplemented) state
-    copy_other e = copy_with_another_acl settings state bucket key acl from_bucket from_key replaced label it.0 it.1 (other_by true e)
-
-    module _ (same : is_other_acl acl list ≡ false) where
-      pub copy_from_missing : TellsBucket from_bucket state None → Copies (Refused NoSuchBucket) state
-      copy_from_missing none = copy_without_source_bucket settings state bucket key acl from_bucket from_key replaced label it.0 it.1 (other_by false same) (none_by (get state from_bucket) none)
-
-      pub of_source : (o : Object) → object_at (get state from_bucket) from_key ≡ Some o → is_onto_itself bucket key from_bucket from_key replaced ≡ false
-          → Copies (Copied false o.etag label.moment) (adjust bucket (put_object key (copied replaced label.moment o)) state)
-      unfolding source_of
-      of_source o e other = step_copied settings state bucket key acl from_bucket from_key replaced label it.0 it.1 (other_by false same) (source_of state from_bucket from_key o e) other
-
-      itself : (o : Object) → object_at (get state from_bucket) from_key ≡ Some o → is_onto_itself bucket key from_bucket from_key replaced ≡ true → Copies (Refused InvalidRequest) state
-      itself o e onto = copy_onto_itself settings state bucket key acl from_bucket from_key replaced label it.0 it.1 (other_by false same) (source_of state from_bucket from_key o e) onto
+  pub copy_from_missing : (list : Acl) → TellsBucket bucket state (Some list) → is_other_acl acl list ≡ false → TellsBucket from_bucket state None → CopiesUnder (Refused NoSuchBucket) state
+  copy_from_missing list told same none =
+      let b = bucket_by (get state bucket) list told in
+      copy_without_source_bucket settings state bucket key acl from_bucket from_key replaced conditions label b.0 b.1 (other_by (get state bucket) acl list told false same) (none_by (get state from_bucket) none)
 
   module _ (list : Acl) (same : is_other_acl acl list ≡ false) where
-    pub copy_source_missing : IsFoundBucket bucket list from_bucket state → TellsObject from_bucket from_key state None → Copies (Refused NoSuchKey) state
+    pub copy_source_missing : IsFoundBucket bucket list from_bucket state → TellsObject from_bucket from_key state None → CopiesUnder (Refused NoSuchKey) state
     copy_source_missing found none =
         let b = bucket_by (get state bucket) list found.listed in
         let from = bucket_by (get state from_bucket) found.from.0 found.from.1 in
-        copy_without_source settings state bucket key acl from_bucket from_key replaced label b.0 b.1 (ap (is_other_acl acl) b.2 ∙ same) from.0 from.1
+        copy_without_source settings state bucket key acl from_bucket from_key replaced conditions label b.0 b.1 (other_by (get state bucket) acl list found.listed false same) from.0 from.1
         (sym (ap (λ v. object_at v from_key) from.1) ∙ no_object (object_at (get state from_bucket) from_key) none)
 
+    -- the source was found, but doesn't meet the conditions
+    pub copy_refused : {head : ObjectHead} → IsFoundSource bucket list from_bucket from_key head state → may_be_copied conditions head ≡ false → CopiesUnder (Refused PreconditionFailed) state
+    unfolding source_of
+    copy_refused {head = head} found held =
+        let b = bucket_by (get state bucket) list found.listed in
+        let x = object_by_head (object_at (get state from_bucket) from_key) head found.source in
+        copy_held settings state bucket key acl from_bucket from_key replaced conditions label b.0 b.1 (other_by (get state bucket) acl list found.listed false same)
+        (source_of state from_bucket from_key x.0 x.1) (ap (may_be_copied conditions) x.2 ∙ held)
+
+-- it meets them, so the copy is the one without any
+pub copied_under : {settings : Settings} {state : State} {bucket key : List ℕ} {acl : Option Acl} {list : Acl} {from_bucket from_key : List ℕ} {replaced : Option Replaced} {conditions : Conditions} {label : Label} {head : ObjectHead}
+    → IsFoundSource bucket list from_bucket from_key head state → may_be_copied conditions head ≡ true → (reply : Reply) (new : State)
+    → S3Step settings state (CopyObject bucket key acl from_bucket from_key replaced no_conditions) label reply new
+    → S3Step settings state (CopyObject bucket key acl from_bucket from_key replaced conditions) label reply new
+unfolding source_of
+copied_under {settings = settings} {state = state} {bucket = bucket} {key = key} {acl = acl} {from_bucket = from_bucket} {from_key = from_key} {replaced = replaced} {conditions = conditions} {label = label} {head = head} found met reply new s =
+    let x = object_by_head (object_at (get state from_bucket) from_key) head found.source in
+    copy_as_without settings state bucket key from_bucket from_key conditions label (source_of state from_bucket from_key x.0 x.1) (ap (may_be_copied conditions) x.2 ∙ met) acl replaced s
+
+module _ (settings : Settings) (state : State) (bucket key : List ℕ) (acl : Option Acl) (from_bucket from_key : List ℕ) (replaced : Option Replaced) (label : Label) where
+  abbrev Copies : Reply → State → Type 0
+  Copies reply new = S3Step settings state (CopyObject bucket key acl from_bucket from_key replaced no_conditions) label reply new
+
+  module _ (list : Acl) (told : TellsBucket bucket state (Some list)) (same : is_other_acl acl list ≡ false) where
+    abbrev it : (b : Bucket) × (get state bucket ≡ Some b) × (b.acl ≡ list)
+    it = bucket_by (get state bucket) list told
+
+    pub of_source : (o : Object) → object_at (get state from_bucket) from_key ≡ Some o → is_onto_itself bucket key from_bucket from_key replaced ≡ false
+        → Copies (Copied false o.etag label.moment) (adjust bucket (put_object key (copied replaced label.moment o)) state)
+    unfolding source_of
+    of_source o e other =
+        step_copied settings state bucket key acl from_bucket from_key replaced no_conditions label it.0 it.1 (other_by (get state bucket) acl list told false same) (source_of state from_bucket from_key o e) refl other
+
+    itself : (o : Object) → object_at (get state from_bucket) from_key ≡ Some o → is_onto_itself bucket key from_bucket from_key replaced ≡ true → Copies (Refused InvalidRequest) state
+    itself o e onto =
+        copy_onto_itself settings state bucket key acl from_bucket from_key replaced no_conditions label it.0 it.1 (other_by (get state bucket) acl list told false same) (source_of state from_bucket from_key o e) refl onto
+
+  module _ (list : Acl) (same : is_other_acl acl list ≡ false) where
     pub copy_itself : {head : ObjectHead} → IsFoundSource bucket list from_bucket from_key head state → is_onto_itself bucket key from_bucket from_key replaced ≡ true
         → Copies (Refused InvalidRequest) state
     copy_itself {head = head} found onto =
@@ -157,8 +190,8 @@ module _ (bucket from_bucket from_key : List ℕ) where
 
 module _ {settings : Settings} {bucket key : List ℕ} {acl : Option Acl} {from_bucket from_key : List ℕ} {replaced : Option Replaced} {label : Label} where
   -- more calls are allowed than are made
-  pub plans_wider : {given : SwiftAccount → Type 0} (n most : ℕ) {a b : History} {end : Result Reply PlanFault} → n ≤ most → Plans (always n) a b settings given (CopyObject bucket key acl from_bucket from_key replaced) label Settled end
-      → Plans (by_account most) a b settings given (CopyObject bucket key acl from_bucket from_key replaced) label Settled end
+  pub plans_wider : {given : SwiftAccount → Type 0} (n most : ℕ) {a b : History} {end : Result Reply PlanFault} → n ≤ most → Plans (always n) a b settings given (CopyObject bucket key acl from_bucket from_key replaced no_conditions) label Settled end
+      → Plans (by_account most) a b settings given (CopyObject bucket key acl from_bucket from_key replaced no_conditions) label Settled end
   plans_wider n most within plans = record {
     grows = record { on = plans.grows.on; calls = λ met. let near = plans.grows.calls in omega (arith, near) };
     cause = plans.cause;
@@ -170,9 +203,9 @@ module _ {settings : Settings} {bucket key : List ℕ} {acl : Option Acl} {from_
   -- of a source whose head has an ETag of parts
   pub plans_of_parts : {list : Acl} {head : ObjectHead} {a b : History} {end : Result Reply PlanFault} → 32 < length head.etag
       → Plans (by_account (4 + 2 * (records_of (present a) bucket + segments_of (present a) bucket) + 2 * listed_by (present a) from_bucket from_key)) a b settings
-      (Given (IsFoundSource bucket list from_bucket from_key head)) (CopyObject bucket key acl from_bucket from_key replaced) label Settled end
+      (Given (IsFoundSource bucket list from_bucket from_key head)) (CopyObject bucket key acl from_bucket from_key replaced no_conditions) label Settled end
       → Plans (by_account (copy_calls 2 (present a) bucket from_bucket from_key)) a b settings
-      (Given (IsFoundSource bucket list from_bucket from_key head)) (CopyObject bucket key acl from_bucket from_key replaced) label Settled end
+      (Given (IsFoundSource bucket list from_bucket from_key head)) (CopyObject bucket key acl from_bucket from_key replaced no_conditions) label Settled end
   plans_of_parts {a = a} {b = b} long plans = record {
     grows = record {
       on = plans.grows.on;

@@ -331,6 +331,6 @@ deletes_rest {bucket = bucket} {b = b} {c = c} {settings = settings} {end = end}
 -- nothing is asked of the account beside the state
 pub none_beside_many : (op : Op) → is_many op ≡ true → beside_of op ≡ nothing_beside
 none_beside_many (DeleteObjects bucket keys quiet) is = refl
-none_beside_many (CopyObject bucket key acl from_bucket from_key replaced) is = refl
-none_beside_many (CopyPart bucket key id number from_bucket from_key range) is = refl
+none_beside_many (CopyObject bucket key acl from_bucket from_key replaced conditions) is = refl
+none_beside_many (CopyPart bucket key id number from_bucket from_key range conditions) is = refl
 none_beside_many other is = cc

@@ -1,3 +1,4 @@
+pub mod Alike
 pub mod CopiedPart
 pub mod CopiedSubs
 pub mod CopiesStand

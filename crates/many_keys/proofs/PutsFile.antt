@@ -6,6 +6,7 @@ use Rattle.gate_base.proofs.lemmas.Maps.{some_value}
 use Rattle.gate_base.specs.Maps.{adjust}
 use Rattle.s3_names.specs.Id.{id_digits}
 use Rattle.s3_names.specs.declared.acl.Acl.{Acl}
+use Rattle.s3_machine.specs.Conditions.{no_conditions}
 use Rattle.s3_machine.specs.Copies.{copied, is_onto_itself}
 use Rattle.s3_machine.specs.State.{Object, State}
 use Rattle.s3_machine.specs.Step.{S3Step, is_other_acl}
@@ -117,12 +118,12 @@ same_some x y e = cc
 pub copy_steps : (settings : Settings) (acl : Option Acl) (list : Acl) (from_bucket from_key : List ℕ) (replaced : Option Replaced) (label : Label) (s : Sealed) (etag : List ℕ) → is_other_acl acl list ≡ false
     → is_onto_itself s.bucket s.key from_bucket from_key replaced ≡ false → s.moment ≡ label.moment → etag ≡ s.etag → (tree : SwiftAccount) (told : Unit {0}) (new : State) → MayPut list from_bucket from_key replaced s (sealed_sub_manifests s) tree
     → CopiesObject s.bucket s.key from_bucket from_key replaced s.moment told (s3_state tree) new
-    → S3Step settings (s3_state tree) (CopyObject s.bucket s.key acl from_bucket from_key replaced) label (Copied false etag s.moment) new
+    → S3Step settings (s3_state tree) (CopyObject s.bucket s.key acl from_bucket from_key replaced no_conditions) label (Copied false etag s.moment) new
 copy_steps settings acl list from_bucket from_key replaced label s etag same other dated tagged tree told new may does =
     let o : Object = does.object in
     let step = of_source settings (s3_state tree) s.bucket s.key acl from_bucket from_key replaced label list may.listed same o does.found other in
-    let then : S3Step settings (s3_state tree) (CopyObject s.bucket s.key acl from_bucket from_key replaced) label (Copied false o.etag s.moment) (adjust s.bucket (machine.put_object s.key (copied replaced s.moment o)) (s3_state tree)) =
-    subst (λ m. S3Step settings (s3_state tree) (CopyObject s.bucket s.key acl from_bucket from_key replaced) label (Copied false o.etag m) (adjust s.bucket (machine.put_object s.key (copied replaced m o)) (s3_state tree))) (sym dated) step in
+    let then : S3Step settings (s3_state tree) (CopyObject s.bucket s.key acl from_bucket from_key replaced no_conditions) label (Copied false o.etag s.moment) (adjust s.bucket (machine.put_object s.key (copied replaced s.moment o)) (s3_state tree)) =
+    subst (λ m. S3Step settings (s3_state tree) (CopyObject s.bucket s.key acl from_bucket from_key replaced no_conditions) label (Copied false o.etag m) (adjust s.bucket (machine.put_object s.key (copied replaced m o)) (s3_state tree))) (sym dated) step in
     let is_one : o ≡ may.copy.object = same_some o may.copy.object (sym does.found ∙ may.copy.found) in
     let is_etag : o.etag ≡ etag = ap (λ (x : Object). x.etag) is_one ∙ sym (etag_kept replaced s.moment may.copy.object) ∙ sym (ap (λ (x : Object). x.etag) may.copy.same) ∙ sym tagged in
-    subst {A = List ℕ × State} (λ e. S3Step settings (s3_state tree) (CopyObject s.bucket s.key acl from_bucket from_key replaced) label (Copied false e.0 s.moment) e.1) (λ i. (is_etag i, sym does.made i)) then
+    subst {A = List ℕ × State} (λ e. S3Step settings (s3_state tree) (CopyObject s.bucket s.key acl from_bucket from_key replaced no_conditions) label (Copied false e.0 s.moment) e.1) (λ i. (is_etag i, sym does.made i)) then

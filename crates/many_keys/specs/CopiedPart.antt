@@ -1,9 +1,8 @@
 -- What the calls of a part's copy told before the last one: of the upload that the part is put into, and of the object that its
 -- bytes are of. Source: this profile.
-use Rattle.std.specs.Prelude.{◌≡◌, ℕ, nat_lt, true, false, List, length, Option, Some}
+use Rattle.std.specs.Prelude.{◌≡◌, ℕ, true, List, length, Option, Some}
 use Rattle.std.specs.FinMap.{get}
 use Rattle.s3_machine.specs.Copies.{copied_span, has_last}
-use Rattle.s3_machine.specs.Limits.{most_body_bytes}
 use Rattle.s3_machine.specs.Reading.{taken}
 use Rattle.s3_machine.specs.State.{Object, State}
 use Rattle.s3_machine.specs.declared.operation.Label.{Label}
@@ -29,13 +28,13 @@ pub record MayCopyOf (bucket key text : List ℕ) (id : ℕ) (from_bucket from_k
   pub opened : IsOpenUpload bucket key text id tree
   pub source : TellsObject from_bucket from_key (s3_state tree) (Some head)
 
--- these bytes are those of a source that may be copied: it has the last byte of the range, and a body may have as many
+-- these bytes are those of a source that has the last byte of the range, and as many as the range
 pub record AreCopied (from_bucket from_key : List ℕ) (range : Option (ℕ × ℕ)) (body : List ℕ) (state : State) : Type 0 where
   pub object : Object
   pub there : object_at (get state from_bucket) from_key ≡ Some object
   pub ends : has_last range (length object.bytes) ≡ true
-  pub sized : nat_lt most_body_bytes (copied_span range (length object.bytes)).length ≡ false
   pub are : body ≡ taken (copied_span range (length object.bytes)) object.bytes
+  pub counted : length body ≡ (copied_span range (length object.bytes)).length
 
 -- the upload is open, and these are the bytes of the part
 pub record MayPutCopy (bucket key text : List ℕ) (id : ℕ) (from_bucket from_key : List ℕ) (range : Option (ℕ × ℕ)) (body : List ℕ) (tree : SwiftAccount) : Type 0 where
@@ -56,6 +55,6 @@ pub record StandsPartCopy (bucket text : List ℕ) (number moment : ℕ) (tree :
 
 -- what an operation that was done leaves where it stands: the file of a copy, or that of a part; of any other operation nothing is said
 abbrev pub CopyStands : Op → Label → SwiftAccount → Type 0
-CopyStands (CopyObject bucket key acl from_bucket from_key replaced) label tree = StandsCopy bucket key label.moment tree
-CopyStands (CopyPart bucket key id number from_bucket from_key range) label tree = StandsPartCopy bucket id number label.moment tree
+CopyStands (CopyObject bucket key acl from_bucket from_key replaced conditions) label tree = StandsCopy bucket key label.moment tree
+CopyStands (CopyPart bucket key id number from_bucket from_key range conditions) label tree = StandsPartCopy bucket id number label.moment tree
 CopyStands _ label tree = Unit {0}

@@ -2,9 +2,10 @@
 ghost use Rattle.std.specs.Prelude.{◌≡◌, ◌<◌, ◌≤◌, ℕ, true, List, length, Option, Some, IfSome};
 ghost use Rattle.gate_base.specs.Told.{moment_limit};
 ghost use Rattle.s3_names.specs.Bucket.{is_bucket};
+ghost use Rattle.s3_machine.specs.Conditions.{no_conditions};
 ghost use Rattle.s3_machine.specs.Copies.{copied_span, has_last};
 ghost use Rattle.s3_machine.specs.ETag.{body_etag};
-ghost use Rattle.s3_machine.specs.Limits.{most_body_bytes};
+ghost use Rattle.s3_machine.specs.Limits.{body_limit};
 ghost use Rattle.s3_machine.specs.Step.{IsPlace, IsProperCopyRange};
 ghost use Rattle.s3_machine.specs.Uploads.{IsPartNumber};
 ghost use Rattle.s3_machine.specs.declared.operation.Op.TheVariants.{CopyPart};
@@ -14,7 +15,8 @@ ghost use Rattle.account_calls.specs.Interpret.{IsShownHead};
 ghost use Rattle.account_calls.specs.Lent.{Stays};
 ghost use Rattle.account_calls.specs.declared.state.Known.TheVariants as known;
 ghost use Rattle.account_calls.specs.Plan.{ended, Plans};
-ghost use Rattle.account_calls.specs.Refusals.{in_upload_with_source, Stops, Unrefused};
+ghost use Rattle.account_calls.specs.Refusals.{Stops, Unrefused};
+ghost use Rattle.account_calls.specs.Shows.{in_upload_with_source};
 ghost use Rattle.account_calls.specs.Puts.{EnsuresIfDone, StandsIn};
 ghost use Rattle.upload_calls.specs.Found.{IsOpenUpload};
 ghost use Rattle.upload_calls.specs.Interpret.{put_part_of};
@@ -22,7 +24,9 @@ ghost use Rattle.many_keys.specs.CopiedPart.{MayCopyFrom, MayCopyOf, MayPutCopy,
 
 use account_calls::{PlanFault, Settled, get_object, head_bucket, head_object};
 use gate_base::Bytes;
-use s3_machine::{Body, Code, Label, MOST_BODY_BYTES, ObjectHead, Reply, copied_span, has_last};
+use s3_machine::{
+    Body, Code, Conditions, Label, ObjectHead, Reply, copied_span, has_last, may_be_copied,
+};
 use std::alloc::Global;
 use swift_calls::Swift;
 use upload_calls::{Found, find_upload, put_part};
@@ -30,10 +34,11 @@ use upload_calls::{Found, find_upload, put_part};
 /// CopyPart (UploadPartCopy): HEAD of the bucket's container, GET of the upload's record, HEAD of the container of the source's
 /// bucket, HEAD of the source's file, GET of its bytes unless no byte is wanted, and PUT of the part's file, which commits. At
 /// most six calls. The text is that of the id, as it was given; a range has the number of its first byte and that of its last.
-/// NoSuchBucket, NoSuchUpload, NoSuchBucket of the source, NoSuchKey, InvalidRange where the source doesn't have the last byte of
-/// the range, and EntityTooLarge where more than `MOST_BODY_BYTES` bytes are wanted come in this order, and the state stays. The
-/// reply is made before the PUT, so that no memory is needed after it. The faults are those of the calls; Inconsistent also where
-/// GET gives another number of bytes than was asked for.
+/// NoSuchBucket, NoSuchUpload, NoSuchBucket of the source, NoSuchKey, PreconditionFailed where a GET under the conditions wouldn't
+/// give the source's bytes, InvalidRange where the source doesn't have the last byte of the range, and EntityTooLarge where more
+/// bytes are wanted than a body may have in this run come in this order, and the state stays. The reply is made before the PUT, so
+/// that no memory is needed after it. The faults are those of the calls; Inconsistent also where GET gives another number of bytes
+/// than was asked for.
 pub(crate) fn plan_upload_part_copy<W: Swift>(
     alloc: Global,
     state: &mut Settled<'_, W>,
@@ -44,6 +49,7 @@ pub(crate) fn plan_upload_part_copy<W: Swift>(
     from_bucket: Bytes,
     from_key: Bytes,
     range: Option<(u64, u64)>,
+    conditions: &Conditions,
     label: &Label,
 ) -> Result<Reply, PlanFault>
     requires place { IsPlace bucket.now key.now }
@@ -54,7 +60,7 @@ pub(crate) fn plan_upload_part_copy<W: Swift>(
     ensures stays { Stays state.old state.new }
     ensures plans { Plans (always 6) (W.history state.old.store.now) (W.history state.new.store.now)
         state.old.settings.now (Given Any)
-        (CopyPart bucket.now key.now text.now number from_bucket from_key range) label.now
+        (CopyPart bucket.now key.now text.now number from_bucket from_key range conditions.now) label.now
         known.Settled result }
     ensures stands { EnsuresIfDone (W.history state.new.store.now)
         (StandsPartCopy bucket.now text.now number label.now.moment) result }
@@ -72,6 +78,7 @@ pub(crate) fn plan_upload_part_copy<W: Swift>(
             from_bucket,
             from_key,
             range,
+            conditions,
             label,
         ),
     }
@@ -87,6 +94,7 @@ fn plan_part_copy_into_upload<W: Swift>(
     from_bucket: Bytes,
     from_key: Bytes,
     range: Option<(u64, u64)>,
+    conditions: &Conditions,
     label: &Label,
 ) -> Result<Reply, PlanFault>
     requires name { is_bucket bucket.now ≡ true }
@@ -98,8 +106,8 @@ fn plan_part_copy_into_upload<W: Swift>(
     ensures plans { (key text : List ℕ)
         → Plans (always 4) (W.history state.old.store.now) (W.history state.new.store.now)
         state.old.settings.now (GivenOf (IsOpenUpload bucket.now key text id))
-        (CopyPart bucket.now key text number from_bucket from_key range) label.now known.Settled
-        result }
+        (CopyPart bucket.now key text number from_bucket from_key range conditions.now) label.now
+        known.Settled result }
     ensures stands { EnsuresIfDone (W.history state.new.store.now)
         (StandsCopiedPart bucket.now id number label.now.moment) result }
     ensures stops { Stops in_upload_with_source 2 (W.history state.old.store.now) (W.history state.new.store.now) result }
@@ -116,6 +124,7 @@ fn plan_part_copy_into_upload<W: Swift>(
         from_bucket,
         from_key,
         range,
+        conditions,
         label,
     )
 }
@@ -130,6 +139,7 @@ fn plan_part_copy_from_bucket<W: Swift>(
     from_bucket: Bytes,
     from_key: Bytes,
     range: Option<(u64, u64)>,
+    conditions: &Conditions,
     label: &Label,
 ) -> Result<Reply, PlanFault>
     requires name { is_bucket bucket.now ≡ true }
@@ -141,8 +151,8 @@ fn plan_part_copy_from_bucket<W: Swift>(
     ensures plans { (key text : List ℕ)
         → Plans (always 3) (W.history state.old.store.now) (W.history state.new.store.now)
         state.old.settings.now (GivenOf (MayCopyFrom bucket.now key text id from_bucket))
-        (CopyPart bucket.now key text number from_bucket from_key range) label.now known.Settled
-        result }
+        (CopyPart bucket.now key text number from_bucket from_key range conditions.now) label.now
+        known.Settled result }
     ensures stands { EnsuresIfDone (W.history state.new.store.now)
         (StandsCopiedPart bucket.now id number label.now.moment) result }
     ensures stops { Stops in_upload_with_source 3 (W.history state.old.store.now) (W.history state.new.store.now) result }
@@ -150,6 +160,56 @@ fn plan_part_copy_from_bucket<W: Swift>(
     let Some(head) = head_object(alloc, state, &from_bucket, &from_key)? else {
         return Ok(Reply::Refused(Code::NoSuchKey));
     };
+    plan_part_copy_under_conditions(
+        alloc,
+        state,
+        bucket,
+        id,
+        number,
+        from_bucket,
+        from_key,
+        range,
+        conditions,
+        head,
+        label,
+    )
+}
+
+/// The rest of CopyPart, of a source that is there with this head: PreconditionFailed, where a GET under the conditions wouldn't
+/// give its bytes. The copy of any other is the copy without conditions.
+fn plan_part_copy_under_conditions<W: Swift>(
+    alloc: Global,
+    state: &mut Settled<'_, W>,
+    bucket: &Bytes,
+    id: u128,
+    number: u32,
+    from_bucket: Bytes,
+    from_key: Bytes,
+    range: Option<(u64, u64)>,
+    conditions: &Conditions,
+    head: ObjectHead,
+    label: &Label,
+) -> Result<Reply, PlanFault>
+    requires name { is_bucket bucket.now ≡ true }
+    requires number { IsPartNumber number }
+    requires source { IsPlace from_bucket from_key }
+    requires range { IfSome range IsProperCopyRange }
+    requires shown { IsShownHead (Some head) }
+    requires moment { label.now.moment < moment_limit }
+    ensures stays { Stays state.old state.new }
+    ensures plans { (key text : List ℕ)
+        → Plans (always 2) (W.history state.old.store.now) (W.history state.new.store.now)
+        state.old.settings.now
+        (GivenOf (MayCopyOf bucket.now key text id from_bucket from_key head))
+        (CopyPart bucket.now key text number from_bucket from_key range conditions.now) label.now
+        known.Settled result }
+    ensures stands { EnsuresIfDone (W.history state.new.store.now)
+        (StandsCopiedPart bucket.now id number label.now.moment) result }
+    ensures stops { Stops in_upload_with_source 4 (W.history state.old.store.now) (W.history state.new.store.now) result }
+{
+    if !may_be_copied(conditions, &head) {
+        return Ok(Reply::Refused(Code::PreconditionFailed));
+    }
     plan_part_copy_of_source(
         alloc,
         state,
@@ -164,8 +224,8 @@ fn plan_part_copy_from_bucket<W: Swift>(
     )
 }
 
-/// The rest of CopyPart, of a source that is there with this head: whether its bytes may be copied. None are asked for where none
-/// is wanted.
+/// The rest of CopyPart without conditions, of a source that is there with this head: whether its bytes may be copied. None are
+/// asked for where none is wanted.
 fn plan_part_copy_of_source<W: Swift>(
     alloc: Global,
     state: &mut Settled<'_, W>,
@@ -189,8 +249,8 @@ fn plan_part_copy_of_source<W: Swift>(
         → Plans (always 2) (W.history state.old.store.now) (W.history state.new.store.now)
         state.old.settings.now
         (GivenOf (MayCopyOf bucket.now key text id from_bucket from_key head))
-        (CopyPart bucket.now key text number from_bucket from_key range) label.now known.Settled
-        result }
+        (CopyPart bucket.now key text number from_bucket from_key range no_conditions) label.now
+        known.Settled result }
     ensures stands { EnsuresIfDone (W.history state.new.store.now)
         (StandsCopiedPart bucket.now id number label.now.moment) result }
     ensures stops { Stops in_upload_with_source 4 (W.history state.old.store.now) (W.history state.new.store.now) result }
@@ -199,7 +259,8 @@ fn plan_part_copy_of_source<W: Swift>(
         return Ok(Reply::Refused(Code::InvalidRange));
     }
     let wanted = copied_span(range, head.size).length;
-    if wanted > MOST_BODY_BYTES {
+    let limit = state.settings().body_limit();
+    if wanted > limit {
         return Ok(Reply::Refused(Code::EntityTooLarge));
     }
     if wanted == 0 {
@@ -241,15 +302,15 @@ fn plan_part_copy_of_bytes<W: Swift>(
     requires shown { IsShownHead (Some head) }
     requires ends { has_last range head.size ≡ true }
     requires wanted { wanted ≡ (copied_span range head.size).length }
-    requires sized { wanted ≤ most_body_bytes }
+    requires sized { wanted ≤ body_limit state.old.settings.now }
     requires moment { label.now.moment < moment_limit }
     ensures stays { Stays state.old state.new }
     ensures plans { (key text : List ℕ)
         → Plans (always 2) (W.history state.old.store.now) (W.history state.new.store.now)
         state.old.settings.now
         (GivenOf (MayCopyOf bucket.now key text id from_bucket from_key head))
-        (CopyPart bucket.now key text number from_bucket from_key range) label.now known.Settled
-        result }
+        (CopyPart bucket.now key text number from_bucket from_key range no_conditions) label.now
+        known.Settled result }
     ensures stands { EnsuresIfDone (W.history state.new.store.now)
         (StandsCopiedPart bucket.now id number label.now.moment) result }
     ensures unrefused { Unrefused result }
@@ -277,15 +338,15 @@ fn plan_put_part_copy<W: Swift>(
 ) -> Result<Reply, PlanFault>
     requires name { is_bucket bucket.now ≡ true }
     requires number { IsPartNumber number }
-    requires sized { length bytes ≤ most_body_bytes }
+    requires sized { length bytes ≤ body_limit state.old.settings.now }
     requires moment { label.now.moment < moment_limit }
     ensures stays { Stays state.old state.new }
     ensures plans { (key text from_bucket from_key : List ℕ) (range : Option (ℕ × ℕ))
         → Plans (always 1) (W.history state.old.store.now) (W.history state.new.store.now)
         state.old.settings.now
         (GivenOf (MayPutCopy bucket.now key text id from_bucket from_key range bytes))
-        (CopyPart bucket.now key text number from_bucket from_key range) label.now known.Settled
-        result }
+        (CopyPart bucket.now key text number from_bucket from_key range no_conditions) label.now
+        known.Settled result }
     ensures stands { EnsuresIfDone (W.history state.new.store.now)
         (λ tree. StandsIn tree (put_part_of bucket.now id number bytes label.now.moment)) result }
     ensures unrefused { Unrefused result }
@@ -317,7 +378,7 @@ fn plan_part_copy_with_etag<W: Swift>(
 ) -> Result<Reply, PlanFault>
     requires name { is_bucket bucket.now ≡ true }
     requires number { IsPartNumber number }
-    requires sized { length bytes ≤ most_body_bytes }
+    requires sized { length bytes ≤ body_limit state.old.settings.now }
     requires moment { label.now.moment < moment_limit }
     requires etag { etag.now ≡ body_etag bytes }
     ensures stays { Stays state.old state.new }
@@ -325,8 +386,8 @@ fn plan_part_copy_with_etag<W: Swift>(
         → Plans (always 1) (W.history state.old.store.now) (W.history state.new.store.now)
         state.old.settings.now
         (GivenOf (MayPutCopy bucket.now key text id from_bucket from_key range bytes))
-        (CopyPart bucket.now key text number from_bucket from_key range) label.now known.Settled
-        result }
+        (CopyPart bucket.now key text number from_bucket from_key range no_conditions) label.now
+        known.Settled result }
     ensures stands { EnsuresIfDone (W.history state.new.store.now)
         (λ tree. StandsIn tree (put_part_of bucket.now id number bytes label.now.moment)) result }
     ensures unrefused { Unrefused result }

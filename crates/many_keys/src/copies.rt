@@ -2,6 +2,7 @@
 ghost use Rattle.std.specs.Prelude.{◌≡◌, ◌≤◌, ◌<◌, ◌+◌, ◌*◌, ℕ, false, true, length, List, Option, IfSome};
 ghost use Rattle.gate_base.specs.Told.{moment_limit};
 ghost use Rattle.s3_names.specs.declared.acl.Acl.{Acl};
+ghost use Rattle.s3_machine.specs.Conditions.{no_conditions};
 ghost use Rattle.s3_machine.specs.Copies.{is_onto_itself};
 ghost use Rattle.s3_machine.specs.Step.{IsPlace, IsProperReplaced, is_other_acl};
 ghost use Rattle.s3_machine.specs.declared.operation.Op.TheVariants.{CopyObject};
@@ -11,7 +12,8 @@ ghost use Rattle.account_calls.specs.Answers.{copy_calls};
 ghost use Rattle.account_calls.specs.Calls.{always, by_account, Any, Given, TellsBucket};
 ghost use Rattle.account_calls.specs.Lent.{Stays};
 ghost use Rattle.account_calls.specs.Plan.{ended, Plans};
-ghost use Rattle.account_calls.specs.Refusals.{Stops, Unrefused, with_source};
+ghost use Rattle.account_calls.specs.Refusals.{Stops, Unrefused};
+ghost use Rattle.account_calls.specs.Shows.{with_source};
 ghost use Rattle.account_calls.specs.Puts.{EnsuresIfDone};
 ghost use Rattle.account_calls.specs.declared.state.Known.TheVariants as known;
 ghost use Rattle.many_keys.specs.Copies.{IsFoundBucket, IsFoundSource, IsProperHead, IsReadSource, StandsCopy, is_body_to_copy};
@@ -20,7 +22,10 @@ use crate::listed::copy_source_of_parts;
 use crate::source::{content_of, get_source_to_copy, head_source};
 use account_calls::{PlanFault, Settled, head_bucket, put_object};
 use gate_base::Bytes;
-use s3_machine::{Code, Label, ObjectHead, Replaced, Reply, is_onto_itself, is_other_acl};
+use s3_machine::{
+    Code, Conditions, Label, ObjectHead, Replaced, Reply, is_onto_itself, is_other_acl,
+    may_be_copied,
+};
 use s3_names::Acl;
 use std::alloc::Global;
 use swift_calls::Swift;
@@ -37,6 +42,7 @@ pub(crate) fn copy_object<W: Swift>(
     from_bucket: Bytes,
     from_key: Bytes,
     replaced: Option<Replaced>,
+    conditions: &Conditions,
     label: &Label,
 ) -> Result<Reply, PlanFault>
     requires place { IsPlace bucket key }
@@ -47,7 +53,7 @@ pub(crate) fn copy_object<W: Swift>(
     ensures plans { Plans (by_account
         (copy_calls 5 (present (W.history state.old.store.now)) bucket from_bucket from_key))
         (W.history state.old.store.now) (W.history state.new.store.now) state.old.settings.now
-        (Given Any) (CopyObject bucket key acl from_bucket from_key replaced) label.now
+        (Given Any) (CopyObject bucket key acl from_bucket from_key replaced conditions.now) label.now
         known.Settled result }
     ensures stands { EnsuresIfDone (W.history state.new.store.now)
         (StandsCopy bucket key label.now.moment) result }
@@ -66,6 +72,7 @@ pub(crate) fn copy_object<W: Swift>(
         from_bucket,
         from_key,
         replaced,
+        conditions,
         label,
     )
 }
@@ -81,6 +88,7 @@ fn copy_within<W: Swift>(
     from_bucket: Bytes,
     from_key: Bytes,
     replaced: Option<Replaced>,
+    conditions: &Conditions,
     label: &Label,
 ) -> Result<Reply, PlanFault>
     requires place { IsPlace bucket key }
@@ -92,7 +100,8 @@ fn copy_within<W: Swift>(
         (copy_calls 4 (present (W.history state.old.store.now)) bucket from_bucket from_key))
         (W.history state.old.store.now) (W.history state.new.store.now) state.old.settings.now
         (Given (λ s. TellsBucket bucket s (Some list)))
-        (CopyObject bucket key acl from_bucket from_key replaced) label.now known.Settled result }
+        (CopyObject bucket key acl from_bucket from_key replaced conditions.now) label.now
+        known.Settled result }
     ensures stands { EnsuresIfDone (W.history state.new.store.now)
         (StandsCopy bucket key label.now.moment) result }
     ensures stops { Stops with_source 1 (W.history state.old.store.now) (W.history state.new.store.now) result }
@@ -113,6 +122,7 @@ fn copy_within<W: Swift>(
         from_bucket,
         from_key,
         replaced,
+        conditions,
         label,
     )
 }
@@ -128,6 +138,7 @@ fn copy_from<W: Swift>(
     from_bucket: Bytes,
     from_key: Bytes,
     replaced: Option<Replaced>,
+    conditions: &Conditions,
     label: &Label,
 ) -> Result<Reply, PlanFault>
     requires place { IsPlace bucket key }
@@ -140,7 +151,8 @@ fn copy_from<W: Swift>(
         (copy_calls 3 (present (W.history state.old.store.now)) bucket from_bucket from_key))
         (W.history state.old.store.now) (W.history state.new.store.now) state.old.settings.now
         (Given (IsFoundBucket bucket list from_bucket))
-        (CopyObject bucket key acl from_bucket from_key replaced) label.now known.Settled result }
+        (CopyObject bucket key acl from_bucket from_key replaced conditions.now) label.now
+        known.Settled result }
     ensures stands { EnsuresIfDone (W.history state.new.store.now)
         (StandsCopy bucket key label.now.moment) result }
     ensures stops { Stops with_source 2 (W.history state.old.store.now) (W.history state.new.store.now) result }
@@ -148,6 +160,58 @@ fn copy_from<W: Swift>(
     let Some(head) = head_source(alloc, state, &from_bucket, &from_key)? else {
         return Ok(Reply::Refused(Code::NoSuchKey));
     };
+    copy_under_conditions(
+        alloc,
+        state,
+        bucket,
+        key,
+        acl,
+        list,
+        from_bucket,
+        from_key,
+        replaced,
+        conditions,
+        head,
+        label,
+    )
+}
+
+/// The rest of CopyObject, of a source that has this head: PreconditionFailed, where a GET under the conditions wouldn't give its
+/// bytes. The copy of any other is the copy without conditions.
+fn copy_under_conditions<W: Swift>(
+    alloc: Global,
+    state: &mut Settled<'_, W>,
+    bucket: Bytes,
+    key: Bytes,
+    acl: Option<Acl>,
+    list: Acl,
+    from_bucket: Bytes,
+    from_key: Bytes,
+    replaced: Option<Replaced>,
+    conditions: &Conditions,
+    head: ObjectHead,
+    label: &Label,
+) -> Result<Reply, PlanFault>
+    requires place { IsPlace bucket key }
+    requires source { IsPlace from_bucket from_key }
+    requires replaced { IfSome replaced IsProperReplaced }
+    requires moment { label.now.moment < moment_limit }
+    requires acl { is_other_acl acl list ≡ false }
+    requires head { IsProperHead head }
+    ensures stays { Stays state.old state.new }
+    ensures plans { Plans (by_account
+        (copy_calls 2 (present (W.history state.old.store.now)) bucket from_bucket from_key))
+        (W.history state.old.store.now) (W.history state.new.store.now) state.old.settings.now
+        (Given (IsFoundSource bucket list from_bucket from_key head))
+        (CopyObject bucket key acl from_bucket from_key replaced conditions.now) label.now
+        known.Settled result }
+    ensures stands { EnsuresIfDone (W.history state.new.store.now)
+        (StandsCopy bucket key label.now.moment) result }
+    ensures stops { Stops with_source 3 (W.history state.old.store.now) (W.history state.new.store.now) result }
+{
+    if !may_be_copied(conditions, &head) {
+        return Ok(Reply::Refused(Code::PreconditionFailed));
+    }
     copy_found(
         alloc,
         state,
@@ -163,7 +227,7 @@ fn copy_from<W: Swift>(
     )
 }
 
-/// The rest of CopyObject, of a source that has this head: an ETag of more than 32 bytes is one of parts.
+/// The rest of CopyObject without conditions, of a source that has this head: an ETag of more than 32 bytes is one of parts.
 fn copy_found<W: Swift>(
     alloc: Global,
     state: &mut Settled<'_, W>,
@@ -188,7 +252,8 @@ fn copy_found<W: Swift>(
         (copy_calls 2 (present (W.history state.old.store.now)) bucket from_bucket from_key))
         (W.history state.old.store.now) (W.history state.new.store.now) state.old.settings.now
         (Given (IsFoundSource bucket list from_bucket from_key head))
-        (CopyObject bucket key acl from_bucket from_key replaced) label.now known.Settled result }
+        (CopyObject bucket key acl from_bucket from_key replaced no_conditions) label.now
+        known.Settled result }
     ensures stands { EnsuresIfDone (W.history state.new.store.now)
         (StandsCopy bucket key label.now.moment) result }
     ensures stops { Stops with_source 3 (W.history state.old.store.now) (W.history state.new.store.now) result }
@@ -248,7 +313,8 @@ fn copy_plain_source<W: Swift>(
         → is_onto_itself bucket key from_bucket from_key replaced ≡ false
         → Plans (always 2) (W.history state.old.store.now) (W.history state.new.store.now)
         state.old.settings.now (Given (IsFoundSource bucket list from_bucket from_key head))
-        (CopyObject bucket key acl from_bucket from_key replaced) label.now known.Settled result }
+        (CopyObject bucket key acl from_bucket from_key replaced no_conditions) label.now
+        known.Settled result }
     ensures stands { EnsuresIfDone (W.history state.new.store.now)
         (StandsCopy bucket key label.now.moment) result }
     ensures unrefused { Unrefused result }
@@ -278,7 +344,8 @@ fn put_copy<W: Swift>(
         → is_onto_itself bucket key from_bucket from_key replaced ≡ false
         → Plans (always 1) (W.history state.old.store.now) (W.history state.new.store.now) state.old.settings.now
         (Given (IsReadSource bucket list from_bucket from_key head body))
-        (CopyObject bucket key acl from_bucket from_key replaced) label.now known.Settled result }
+        (CopyObject bucket key acl from_bucket from_key replaced no_conditions) label.now
+        known.Settled result }
     ensures stands { EnsuresIfDone (W.history state.new.store.now)
         (StandsCopy bucket key label.now.moment) result }
     ensures unrefused { Unrefused result }

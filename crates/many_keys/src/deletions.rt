@@ -8,7 +8,8 @@ ghost use Rattle.s3_machine.specs.declared.operation.Op.TheVariants.{DeleteObjec
 ghost use Rattle.account_calls.specs.Calls.{always, Any, Becomes, Changes, Given, drops_object};
 ghost use Rattle.account_calls.specs.declared.state.Known.TheVariants as known;
 ghost use Rattle.account_calls.specs.Lent.{Stays};
-ghost use Rattle.account_calls.specs.Refusals.{alone, Stops};
+ghost use Rattle.account_calls.specs.Refusals.{Stops};
+ghost use Rattle.account_calls.specs.Shows.{alone};
 ghost use Rattle.account_calls.specs.Plan.{Plans};
 ghost use Rattle.many_keys.specs.Deletions.{Deletes};
 

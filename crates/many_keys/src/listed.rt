@@ -3,6 +3,7 @@ ghost use Rattle.std.specs.Prelude.{◌≡◌, ◌<◌, ◌+◌, ◌*◌, ◌^�
 ghost use Rattle.gate_base.specs.Told.{moment_limit};
 ghost use Rattle.s3_names.specs.declared.acl.Acl.{Acl};
 ghost use Rattle.s3_names.specs.Meta.{names_ascend};
+ghost use Rattle.s3_machine.specs.Conditions.{no_conditions};
 ghost use Rattle.s3_machine.specs.Copies.{is_onto_itself};
 ghost use Rattle.s3_machine.specs.Step.{IsPlace, IsProperReplaced, is_other_acl};
 ghost use Rattle.s3_machine.specs.declared.operation.Label.{Label};
@@ -41,7 +42,7 @@ use upload_calls::free_id;
 use upload_records::law_unused_is_abandoned;
 use upload_texts::{Sealed, SealedPart};
 
-/// The rest of CopyObject, of a source that was completed from parts: GET of the list of its segments and of that of each of its
+/// The rest of CopyObject without conditions, of a source that was completed from parts: GET of the list of its segments and of that of each of its
 /// sub-manifests, the search of an id that is free, for each segment GET of its file and PUT of it under the id, PUT of each
 /// sub-manifest of the copy, and then PUT of the copy's file, which lists what was put and commits. Over an observable consistent
 /// account at most four calls, two for each record and each segment beside the bucket, and two for each segment and each sub-manifest
@@ -74,7 +75,7 @@ pub(crate) fn copy_source_of_parts<W: Swift>(
         + 2 * listed_by (present (W.history state.old.store.now)) from_bucket from_key))
         (W.history state.old.store.now) (W.history state.new.store.now) state.old.settings.now
         (Given (IsFoundSource bucket list from_bucket from_key head))
-        (CopyObject bucket key acl from_bucket from_key replaced) label.now known.Settled result }
+        (CopyObject bucket key acl from_bucket from_key replaced no_conditions) label.now known.Settled result }
     ensures stands { EnsuresIfDone (W.history state.new.store.now)
         (StandsCopy bucket key label.now.moment) result }
     ensures unrefused { Unrefused result }
@@ -120,7 +121,7 @@ fn copy_empty_source<W: Swift>(
         + segments_of (present (W.history state.old.store.now)) bucket + 1) + 1))
         (W.history state.old.store.now) (W.history state.new.store.now) state.old.settings.now
         (Given (IsFoundSource bucket list from_bucket from_key head))
-        (CopyObject bucket key acl from_bucket from_key replaced) label.now known.Settled result }
+        (CopyObject bucket key acl from_bucket from_key replaced no_conditions) label.now known.Settled result }
     ensures stands { EnsuresIfDone (W.history state.new.store.now)
         (StandsCopy bucket key label.now.moment) result }
     ensures unrefused { Unrefused result }
@@ -162,7 +163,7 @@ fn copy_source_by_pieces<W: Swift>(
         + (2 * length cut.pieces + (sub_manifests (length cut.pieces) + 1))))
         (W.history state.old.store.now) (W.history state.new.store.now) state.old.settings.now
         (GivenOf (HasCut bucket list from_bucket from_key head cut))
-        (CopyObject bucket key acl from_bucket from_key replaced) label.now known.Settled result }
+        (CopyObject bucket key acl from_bucket from_key replaced no_conditions) label.now known.Settled result }
     ensures stands { EnsuresIfDone (W.history state.new.store.now)
         (StandsCopy bucket key label.now.moment) result }
     ensures unrefused { Unrefused result }
@@ -211,7 +212,7 @@ fn copy_under<W: Swift>(
         → Plans (always (2 * length cut.now.pieces + (sub_manifests (length cut.now.pieces) + 1)))
         (W.history state.old.store.now) (W.history state.new.store.now) state.old.settings.now
         (GivenOf (MayFillCut bucket list id from_bucket.now from_key.now head cut.now))
-        (CopyObject bucket key acl from_bucket.now from_key.now replaced) label.now known.Settled
+        (CopyObject bucket key acl from_bucket.now from_key.now replaced no_conditions) label.now known.Settled
         result }
     ensures stands { EnsuresIfDone (W.history state.new.store.now)
         (StandsCopy bucket key label.now.moment) result }
@@ -249,7 +250,7 @@ fn put_copy_of_parts<W: Swift>(
         → Plans (always (sealed_sub_manifests sealed.now + 1)) (W.history state.old.store.now)
         (W.history state.new.store.now) state.old.settings.now
         (GivenOf (MayPut list from_bucket from_key replaced sealed.now 0))
-        (CopyObject sealed.now.bucket sealed.now.key acl from_bucket from_key replaced) label
+        (CopyObject sealed.now.bucket sealed.now.key acl from_bucket from_key replaced no_conditions) label
         known.Settled result }
     ensures stands { EnsuresIfDone (W.history state.new.store.now)
         (λ tree. StandsIn tree (put_object_of sealed.now)) result }
@@ -306,7 +307,7 @@ fn put_listed_copy<W: Swift>(
         → Plans (always 1) (W.history state.old.store.now) (W.history state.new.store.now)
         state.old.settings.now
         (GivenOf (MayPut list from_bucket from_key replaced sealed.now (sealed_sub_manifests sealed.now)))
-        (CopyObject sealed.now.bucket sealed.now.key acl from_bucket from_key replaced) label
+        (CopyObject sealed.now.bucket sealed.now.key acl from_bucket from_key replaced no_conditions) label
         known.Settled result }
     ensures stands { EnsuresIfDone (W.history state.new.store.now)
         (λ tree. StandsIn tree (put_object_of sealed.now)) result }

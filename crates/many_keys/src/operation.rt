@@ -76,6 +76,7 @@ fn plan<W: Swift>(
             from_bucket,
             from_key,
             replaced,
+            conditions,
         } => copy_object(
             alloc,
             state,
@@ -85,6 +86,7 @@ fn plan<W: Swift>(
             taken_text(alloc, from_bucket),
             taken_text(alloc, from_key),
             replaced.take(),
+            conditions,
             label,
         ),
         Op::CopyPart {
@@ -95,6 +97,7 @@ fn plan<W: Swift>(
             from_bucket,
             from_key,
             range,
+            conditions,
         } => plan_upload_part_copy(
             alloc,
             state,
@@ -105,6 +108,7 @@ fn plan<W: Swift>(
             taken_text(alloc, from_bucket),
             taken_text(alloc, from_key),
             *range,
+            conditions,
             label,
         ),
         _ => Err(PlanFault::Memory),

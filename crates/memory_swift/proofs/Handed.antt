@@ -5,6 +5,7 @@ use Rattle.std.proofs.Math.Nat.{le_refl}
 use Rattle.std.proofs.Math.Seq.{take-length}
 use Rattle.std.proofs.lemmas.Option.{same_Some}
 use Rattle.http_wire.specs.declared.message.Message.{Message}
+use Rattle.http_wire.specs.declared.judge.TheConstants.{MOST_BODY_LIMIT}
 use Rattle.http_wire.specs.FirstMessage.{Spells}
 use Rattle.http_wire.proofs.lemmas.UniqueLemmas.{one_spelling}
 use Rattle.swift_calls.specs.Account.{SwiftAccount}
@@ -20,15 +21,15 @@ use Rattle.swift_store.specs.Serving.{Answers, Served}
 use Rattle.swift_store.specs.declared.faults.StoreFault.{StoreFault}
 use Rattle.swift_store.specs.declared.faults.StoreFault.TheVariants.{Failed}
 
-one_message : (bytes : List ℕ) (a b : Message) → Spells bytes a → Spells bytes b → a ≡ b
+one_message : (bytes : List ℕ) (a b : Message) → Spells MOST_BODY_LIMIT bytes a → Spells MOST_BODY_LIMIT bytes b → a ≡ b
 one_message bytes a b is_a is_b =
     let whole = sym (take-length bytes) in
-    (one_spelling bytes a b (length bytes) (length bytes) (le_refl (length bytes)) (le_refl (length bytes)) (subst (λ t. Spells t a) whole is_a) (subst (λ t. Spells t b) whole is_b)).1
+    (one_spelling MOST_BODY_LIMIT bytes a b (length bytes) (length bytes) (le_refl (length bytes)) (le_refl (length bytes)) (subst (λ t. Spells MOST_BODY_LIMIT t a) whole is_a) (subst (λ t. Spells MOST_BODY_LIMIT t b) whole is_b)).1
 
 same_call : (place : Place) (message : Message) (a b : SwiftRequest) → SpellsCall place a message → SpellsCall place b message → a ≡ b
 same_call place message a b is_a is_b = same_Some a b (sym is_a.0 ∙ is_b.0)
 
-module _ (place : Place) (message : Message) (bytes : List ℕ) (call : SwiftRequest) (spells : Spells bytes message) (request : SpellsRequest place call bytes) where
+module _ (place : Place) (message : Message) (bytes : List ℕ) (call : SwiftRequest) (spells : Spells MOST_BODY_LIMIT bytes message) (request : SpellsRequest place call bytes) where
   -- the message is the request's
   is_call : HasToken place message × SpellsCall place call message
   is_call = by request
@@ -63,5 +64,5 @@ module _ (place : Place) (message : Message) (bytes : List ℕ) (call : SwiftReq
         by (other, is_other, answers) = either other (same_call place message other call is_other.1 is_call.1) (answers.1 o)
 
 -- bytes that spell a request are a message
-pub no_request : {A : Type 0} (place : Place) (bytes : List ℕ) (call : SwiftRequest) → ((message : Message) → ¬ (Spells bytes message)) → SpellsRequest place call bytes → A
+pub no_request : {A : Type 0} (place : Place) (bytes : List ℕ) (call : SwiftRequest) → ((message : Message) → ¬ (Spells MOST_BODY_LIMIT bytes message)) → SpellsRequest place call bytes → A
 no_request place bytes call none (message, is, token, calls) = absurd (none message is)

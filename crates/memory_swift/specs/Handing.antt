@@ -3,6 +3,7 @@
 use Rattle.std.specs.Prelude.{◌≡◌, ◌⊎◌, ⊤, ℕ, Bool, true, false, List, Option, Some, None, Result, Ok, Err}
 use Rattle.gate_base.specs.Causes.{Rose}
 use Rattle.gate_base.specs.declared.faults.Memory.{Memory}
+use Rattle.http_wire.specs.declared.judge.TheConstants.{MOST_BODY_LIMIT}
 use Rattle.http_wire.specs.FirstMessage.{Spells}
 use Rattle.http_wire.specs.declared.message.Message.{Message}
 use Rattle.swift_calls.specs.Account.{SwiftAccount}
@@ -14,8 +15,8 @@ use Rattle.swift_replies.specs.Answers.{SpellsAnswer}
 
 -- the one message that the bytes are, from the first to the last; or they are none
 abbrev pub IsMessageIn : List ℕ → Option Message → Type 0
-IsMessageIn bytes (Some message) = Spells bytes message
-IsMessageIn bytes None = (message : Message) → ¬ (Spells bytes message)
+IsMessageIn bytes (Some message) = Spells MOST_BODY_LIMIT bytes message
+IsMessageIn bytes None = (message : Message) → ¬ (Spells MOST_BODY_LIMIT bytes message)
 
 -- what was answered to the request of a call, and what that left: the spelling of the step's reply and its account, or
 -- nothing where the answer is lost, and then the account is the old one or the step's

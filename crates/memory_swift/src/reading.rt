@@ -1,11 +1,12 @@
 //! The message that some bytes are.
 ghost use Rattle.std.specs.Prelude.{◌≡◌, ◌++◌, true, false, Ok, IfOk, IsTrue};
 ghost use Rattle.gate_base.specs.MemLine.{is_open_of, transcript_of};
+ghost use Rattle.http_wire.specs.declared.judge.TheConstants.{MOST_BODY_LIMIT};
 ghost use Rattle.http_wire.specs.Reading.{GivesFirstMessage, ends};
 ghost use Rattle.memory_swift.specs.Handing.{IsMessageIn};
 
 use gate_base::{Bytes, Line, List, MemLine, Memory, NoCount};
-use http_wire::{Got, Message, ReadFault, Reader};
+use http_wire::{Got, MOST_BODY_LIMIT, Message, ReadFault, Reader};
 use std::alloc::Global;
 
 /// The message that the bytes are; none where they are no message, or where others stand behind it.
@@ -42,11 +43,11 @@ fn read_next_at_hand(reader: &mut Reader, line: &mut MemLine) -> Result<Got, Mem
     requires open { IsTrue (is_open_of line.old) }
     ensures open { IsTrue (is_open_of line.new) }
     ensures ends { IfOk result (λ got. reader.new.ended ≡ ends (Ok got)) }
-    ensures gives { IfOk result (λ got. GivesFirstMessage reader.old
+    ensures gives { IfOk result (λ got. GivesFirstMessage MOST_BODY_LIMIT reader.old
         (reader.old.bytes ++ (transcript_of line.old).rest) got reader.new
         (reader.new.bytes ++ (transcript_of line.new).rest)) }
 {
-    match reader.next_request(line, &NoCount) {
+    match reader.next_request(MOST_BODY_LIMIT, line, &NoCount) {
         Ok(got) => Ok(got),
         Err(ReadFault::Failed) => Err(Memory),
         Err(ReadFault::Memory) => Err(Memory),

@@ -37,6 +37,9 @@ const TIME: usize = 24;
 /// How many bytes are read ahead or kept to be sent.
 const AHEAD: usize = 1_048_576;
 
+/// The most bytes of a body that is read ahead.
+const LARGEST: usize = 16_777_216;
+
 /// A limit of time in seconds that the test doesn't come to.
 const LONG: u64 = 30;
 
@@ -134,7 +137,15 @@ fn open_log<R: Net + Abort>(rt: &R) -> (StreamSink<R::Stream>, R::Stream) {
 fn a_reply_in_pieces_is_one(rt: HostRuntime) {
     let (listener, place) = listen(&rt);
     let own = rt.clone().expect(&rt, "a handle");
-    let made = TcpLine::<HostRuntime>::new(own, rt.alloc(), listener, LONG, Some(1), AHEAD);
+    let made = TcpLine::<HostRuntime>::new(
+        own,
+        rt.alloc(),
+        listener,
+        LONG,
+        Some(1),
+        AHEAD,
+        LARGEST,
+    );
     let line = made.expect(&rt, "a line");
     let (sink, mut log) = open_log(&rt);
     let own = rt.clone().expect(&rt, "a handle");

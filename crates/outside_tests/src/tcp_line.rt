@@ -13,6 +13,9 @@ const REPLY: &[u8] = b"HTTP/1.1 200 OK\r\nContent-Length: 0\r\n\r\n";
 /// How many bytes are read ahead or kept to be sent.
 const AHEAD: usize = 1_048_576;
 
+/// The most bytes of a body that is read ahead.
+const LARGEST: usize = 16_777_216;
+
 /// A limit of time in seconds that the test doesn't come to.
 const LONG: u64 = 30;
 
@@ -30,7 +33,15 @@ fn serve<L: Line<NoCount>, S: Read>(rt: &impl Abort, line: &mut L, client: &mut 
 fn a_client_is_served(rt: HostRuntime) {
     let (listener, place) = listen(&rt);
     let own = rt.clone().expect(&rt, "a handle");
-    let made = TcpLine::<HostRuntime>::new(own, rt.alloc(), listener, LONG, Some(1), AHEAD);
+    let made = TcpLine::<HostRuntime>::new(
+        own,
+        rt.alloc(),
+        listener,
+        LONG,
+        Some(1),
+        AHEAD,
+        LARGEST,
+    );
     let mut line = made.expect(&rt, "a line");
     let mut client = client(&rt, place, ASKED);
     serve(&rt, &mut line, &mut client);

@@ -6,6 +6,7 @@ use Rattle.s3_names.specs.declared.target.Target.{Target}
 use Rattle.s3_names.specs.Target.{target_of}
 use Rattle.http_wire.specs.declared.message.Got.TheVariants.{Request, CutShort, Refused}
 use Rattle.http_wire.specs.declared.message.Kind.{Kind}
+use Rattle.http_wire.specs.declared.judge.TheConstants.{BODY_LIMIT}
 use Rattle.http_wire.specs.declared.message.Message.{Message}
 use Rattle.http_wire.specs.FirstMessage.{FirstMessage, asks, cut_short, refused, BeginsWith}
 use Rattle.http_wire.specs.Reading.{Pending, GivesFirstMessage}
@@ -36,24 +37,24 @@ presigns_of secret id region moment expires message text url target read host te
 abbrev fresh : Pending
 fresh = record { bytes = []; place = 0; ended = false }
 
-front_first : (rest : List ℕ) (old : Pending) (front : FirstMessage) → old ≡ fresh → BeginsWith (old.bytes ++ rest) front → BeginsWith rest front
-front_first rest old front is first = subst (λ (p : Pending). BeginsWith (p.bytes ++ rest) front) is first
+front_first : (rest : List ℕ) (old : Pending) (front : FirstMessage) → old ≡ fresh → BeginsWith BODY_LIMIT (old.bytes ++ rest) front → BeginsWith BODY_LIMIT rest front
+front_first rest old front is first = subst (λ (p : Pending). BeginsWith BODY_LIMIT (p.bytes ++ rest) front) is first
 
 -- the answer to the request that stands first
-answers_first : (P : Message → List ℕ → Type 0) (bytes : List ℕ) (message : Message) (size : ℕ) (presigning : Presigning) → BeginsWith bytes (asks message size) → Answers P message presigning → AnswersFrom P bytes presigning
+answers_first : (P : Message → List ℕ → Type 0) (bytes : List ℕ) (message : Message) (size : ℕ) (presigning : Presigning) → BeginsWith BODY_LIMIT bytes (asks message size) → Answers P message presigning → AnswersFrom P bytes presigning
 answers_first P bytes message size (Url url) first answer = (message, size, first, answer)
 answers_first P bytes message size NoRequest first answer = (asks message size, first, answer)
 answers_first P bytes message size LineFailed first answer = tt
 answers_first P bytes message size Memory first answer = tt
 
-pub request_first : (P : Message → List ℕ → Type 0) (rest : List ℕ) (old new : Pending) (left : List ℕ) (message : Message) (presigning : Presigning) → old ≡ fresh → GivesFirstMessage old (old.bytes ++ rest) (Request message) new left → Answers P message presigning → AnswersFrom P rest presigning
+pub request_first : (P : Message → List ℕ → Type 0) (rest : List ℕ) (old new : Pending) (left : List ℕ) (message : Message) (presigning : Presigning) → old ≡ fresh → GivesFirstMessage BODY_LIMIT old (old.bytes ++ rest) (Request message) new left → Answers P message presigning → AnswersFrom P rest presigning
 request_first P rest old new left message presigning is gives answer =
     answers_first P rest message gives.0 presigning (front_first rest old (asks message gives.0) is gives.2) answer
 
-pub cut_first : (P : Message → List ℕ → Type 0) (rest : List ℕ) (old new : Pending) (left : List ℕ) (place : ℕ) → old ≡ fresh → GivesFirstMessage old (old.bytes ++ rest) (CutShort place) new left → AnswersFrom P rest NoRequest
+pub cut_first : (P : Message → List ℕ → Type 0) (rest : List ℕ) (old new : Pending) (left : List ℕ) (place : ℕ) → old ≡ fresh → GivesFirstMessage BODY_LIMIT old (old.bytes ++ rest) (CutShort place) new left → AnswersFrom P rest NoRequest
 cut_first P rest old new left place is gives = (cut_short, front_first rest old cut_short is gives.1, tt)
 
-pub refused_first : (P : Message → List ℕ → Type 0) (rest : List ℕ) (old new : Pending) (left : List ℕ) (kind : Kind) (place : ℕ) (head : Bool) → old ≡ fresh → GivesFirstMessage old (old.bytes ++ rest) (Refused kind place head) new left → AnswersFrom P rest NoRequest
+pub refused_first : (P : Message → List ℕ → Type 0) (rest : List ℕ) (old new : Pending) (left : List ℕ) (kind : Kind) (place : ℕ) (head : Bool) → old ≡ fresh → GivesFirstMessage BODY_LIMIT old (old.bytes ++ rest) (Refused kind place head) new left → AnswersFrom P rest NoRequest
 refused_first P rest old new left kind place head is gives = (refused kind head, front_first rest old (refused kind head) is gives.1, tt)
 
 -- ---- what was sent
@@ -67,6 +68,6 @@ interim_by connection at old new Memory heard (inr (n, e)) = inl e
 
 -- a request was read, and its answer doesn't touch the line
 pub request_sent : (rest : List ℕ) (reader : Pending) (connection at : ℕ) (old new : List Piece) (presigning : Presigning) → reader ≡ fresh → is_failed_presigning presigning ≡ false
-    → SendsInterim (OwesInterim (reader.bytes ++ rest)) connection at old new → SendsBy (OwesInterim rest) connection at old presigning new
+    → SendsInterim (OwesInterim BODY_LIMIT (reader.bytes ++ rest)) connection at old new → SendsBy (OwesInterim BODY_LIMIT rest) connection at old presigning new
 request_sent rest reader connection at old new presigning is heard sends =
-    interim_by connection at old new presigning heard (subst (λ (p : Pending). SendsInterim (OwesInterim (p.bytes ++ rest)) connection at old new) is sends)
+    interim_by connection at old new presigning heard (subst (λ (p : Pending). SendsInterim (OwesInterim BODY_LIMIT (p.bytes ++ rest)) connection at old new) is sends)

@@ -6,6 +6,7 @@ use Rattle.gate_base.specs.Transcript.{Transcript}
 use Rattle.s3_names.specs.declared.fault.NameFault.{NameFault}
 use Rattle.s3_names.specs.declared.target.Target.{Target}
 use Rattle.s3_names.specs.Target.{target_of}
+use Rattle.http_wire.specs.declared.judge.TheConstants.{BODY_LIMIT}
 use Rattle.http_wire.specs.declared.message.Message.{Message}
 use Rattle.http_wire.specs.FirstMessage.{FirstMessage, asks, nothing, cut_short, refused, BeginsWith}
 use Rattle.http_wire.specs.Headers.{has_single_header}
@@ -52,8 +53,8 @@ IsUnsigned (refused kind head) = ⊤
 
 -- the answer to a connection of these bytes, by what stands first in them
 abbrev pub AnswersFrom : (Message → List ℕ → Type 0) → List ℕ → Presigning → Type 0
-AnswersFrom P bytes (Url url) = (message : Message) × (size : ℕ) × BeginsWith bytes (asks message size) × P message url
-AnswersFrom P bytes NoRequest = (front : FirstMessage) × BeginsWith bytes front × IsUnsigned front
+AnswersFrom P bytes (Url url) = (message : Message) × (size : ℕ) × BeginsWith BODY_LIMIT bytes (asks message size) × P message url
+AnswersFrom P bytes NoRequest = (front : FirstMessage) × BeginsWith BODY_LIMIT bytes front × IsUnsigned front
 AnswersFrom P bytes LineFailed = ⊤
 AnswersFrom P bytes Memory = ⊤
 

@@ -1,6 +1,7 @@
 ghost use Rattle.std.specs.Prelude.{◌≡◌, ◌≤◌, ◌<◌, true, false, IsTrue};
 ghost use Rattle.gate_base.specs.Line.{LineServes};
 ghost use Rattle.gate_base.specs.Told.{moment_limit};
+ghost use Rattle.http_wire.specs.declared.judge.TheConstants.{BODY_LIMIT};
 ghost use Rattle.http_wire.specs.Interim.{OwesInterim};
 ghost use Rattle.sigv4.specs.Keys.{is_key};
 ghost use Rattle.presign.specs.Url.{is_region};
@@ -9,7 +10,7 @@ ghost use Rattle.presign_cmd.specs.Presigning.{Answers, AnswersFrom, AnswersFirs
 
 use crate::message::presign_message;
 use gate_base::{Bytes, Counted, Line, Memory};
-use http_wire::{Got, Message, ReadFault, Reader};
+use http_wire::{BODY_LIMIT, Got, Message, ReadFault, Reader};
 use std::alloc::Global;
 
 /// How presigning ended.
@@ -83,7 +84,7 @@ fn presign_next<N: Line<W>, W: Counted>(
     ensures effect { IsTrue (N.model line.old).observable
         → AnswersFrom (Presigns secret.now id.now region.now moment expires) (N.model line.old).transcript.rest result }
     ensures sent { IsTrue (N.model line.old).observable
-        → SendsBy (OwesInterim (N.model line.old).transcript.rest)
+        → SendsBy (OwesInterim BODY_LIMIT (N.model line.old).transcript.rest)
         (N.model line.old).transcript.begun (W.called store.now) (N.model line.old).transcript.sent
         result (N.model line.new).transcript.sent }
 {
@@ -91,7 +92,7 @@ fn presign_next<N: Line<W>, W: Counted>(
         Ok(reader) => reader,
         Err(_) => return Presigning::Memory,
     };
-    match reader.next_request(line, store) {
+    match reader.next_request(BODY_LIMIT, line, store) {
         Ok(Got::Request(message)) => {
             presigning_of_message(alloc, secret, id, region, moment, expires, &message)
         }

@@ -1,3 +1,4 @@
 pub mod Reading
 pub mod StepLemmas
+pub mod CopyConditions
 pub mod Starts

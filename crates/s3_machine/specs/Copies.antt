@@ -1,10 +1,26 @@
--- Copies: what an object is put with that is copied of another, and which bytes of it a part is copied of. Source: Amazon S3 API
--- Reference, "CopyObject" and "UploadPartCopy"; that a copy keeps its source's ETag is this profile's.
+-- Copies: whether a source meets their conditions, what an object is put with that is copied of another, and which bytes of it a
+-- part is copied of. Source: Amazon S3 API Reference, "CopyObject" and "UploadPartCopy"; that a copy keeps its source's ETag, and that
+-- of conditions which contradict one another each counts as for a GET, is this profile's.
 use Rattle.std.specs.Prelude.{◌+◌, ◌-◌, ℕ, Bool, true, false, ◌&&◌, nat_lt, bytes_eq, List, Option, Some, None}
 use Rattle.s3_machine.specs.declared.operation.Replaced.{Replaced}
+use Rattle.s3_machine.specs.declared.operation.ObjectHead.{ObjectHead}
+use Rattle.s3_machine.specs.declared.reading.Conditions.{Conditions}
+use Rattle.s3_machine.specs.declared.reading.Judged.{Judged}
+use Rattle.s3_machine.specs.declared.reading.Judged.TheVariants.{PreconditionFailed, NotModified, InvalidRange, Bytes}
 use Rattle.s3_machine.specs.declared.reading.Span.{Span}
-use Rattle.s3_machine.specs.Reading.{all_of}
+use Rattle.s3_machine.specs.Reading.{all_of, judged}
 use Rattle.s3_machine.specs.State.{Object}
+
+-- a read comes to bytes of the object
+abbrev pub gives_bytes : Judged → Bool
+gives_bytes PreconditionFailed = false
+gives_bytes NotModified = false
+gives_bytes InvalidRange = false
+gives_bytes (Bytes span partial) = true
+
+-- an object may be copied under these conditions: where a GET under them gives its bytes
+abbrev pub may_be_copied : Conditions → ObjectHead → Bool
+may_be_copied conditions head = gives_bytes (judged None conditions head)
 
 -- the copy of an object: with its bytes and its ETag, and with its content type and metadata or those in their place
 abbrev pub copied : Option Replaced → ℕ → Object → Object

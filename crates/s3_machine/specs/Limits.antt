@@ -1,17 +1,22 @@
 -- The limits of what an object is put with, and of what is asked for. Source: Amazon S3 User Guide, "Working with object metadata", and RFC 9110,
 -- section 5.6.2, for tokens; the numbers are this profile's.
-use Rattle.std.specs.Prelude.{ℕ, Bool, false, ◌&&◌, ◌||◌, ◌==◌, ◌+◌, nat_le, if◌then◌else◌, List, length, drop, slice_get, sum_by, codes, bytes_eq}
+use Rattle.std.specs.Prelude.{ℕ, Bool, false, ◌&&◌, ◌||◌, ◌==◌, ◌+◌, nat_le, min, if◌then◌else◌, List, length, drop, slice_get, sum_by, codes, bytes_eq}
 use Rattle.std.specs.List.{list_all, list_any}
 use Rattle.std.specs.Option.{option_map_or}
 use Rattle.gate_base.specs.Fields.{is_field, is_printable}
 use Rattle.gate_base.specs.declared.page.Pair.{Pair}
 use Rattle.s3_names.specs.Bucket.{is_lower_or_digit}
 use Rattle.s3_names.specs.Key.{is_key}
+use Rattle.s3_machine.specs.declared.operation.Settings.{Settings}
 use Rattle.s3_machine.specs.declared.limits.TheConstants.{MOST_BODY_BYTES, MOST_CONTENT_TYPE_BYTES, MOST_ENTRIES, MOST_ITEMS, MOST_KEYS, MOST_META_BYTES, RANGE_LIMIT}
 
--- the most bytes of the body of a request
+-- the most bytes of the body of any request
 abbrev pub most_body_bytes : ℕ
 most_body_bytes = MOST_BODY_BYTES
+
+-- the most bytes of a body, and of a part that is copied, in a run
+abbrev pub body_limit : Settings → ℕ
+body_limit settings = min settings.largest_body most_body_bytes
 
 -- 1 to 256 bytes of visible ASCII and spaces, without a space at either end
 unfoldable pub is_content_type : List ℕ → Bool

@@ -23,6 +23,7 @@ abbrev pub ranged : Option Range → ℕ → Judged
 ranged None size = Bytes (all_of size) false
 ranged (Some range) size = ranged_by (span_of range size)
 
+-- what a read with conditions comes to, by the head of the object: a failed condition, not modified, or the range
 abbrev pub judged : Option Range → Conditions → ObjectHead → Judged
 judged range conditions head =
     cond (fails conditions head.etag head.modified) PreconditionFailed

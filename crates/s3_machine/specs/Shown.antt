@@ -47,15 +47,19 @@ IsShownBucket item = IsDated item.created
 abbrev pub IsShownItemHead : ItemHead → Type 0
 IsShownItemHead head = IsDated head.modified
 
+-- an item of a listing: of an object, a moment that has a date
 abbrev pub IsShownItem : Item → Type 0
 IsShownItem item = IfSome item.object IsShownItemHead
 
+-- an upload that is listed: a start that has a date
 abbrev pub IsShownUpload : UploadItem → Type 0
 IsShownUpload item = IsDated item.started
 
+-- a part that is listed: a moment that has a date
 abbrev pub IsShownPart : PartItem → Type 0
 IsShownPart item = IsDated item.modified
 
+-- a reply has a page: each moment in it has a date, and of an object the bytes that are sent have an end that numbers hold
 abbrev pub IsShowable : Reply → Type 0
 IsShowable (Refused code) = Unit {0}
 IsShowable Memory = Unit {0}
@@ -67,7 +71,7 @@ IsShowable (Made bucket) = Unit {0}
 IsShowable (Location region) = Unit {0}
 IsShowable (AclOf acl) = Unit {0}
 IsShowable (Objects bucket asked items truncated) = All IsShownItem items
-IsShowable (Uploads bucket prefix key_marker id_marker max items truncated) = All IsShownUpload items
+IsShowable (Uploads bucket prefix key_marker id_marker max url items truncated) = All IsShownUpload items
 IsShowable (Stored etag) = Unit {0}
 IsShowable (Object head from length partial body) = IsShown head from length partial
 IsShowable (Started bucket key id) = Unit {0}

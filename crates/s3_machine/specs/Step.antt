@@ -73,10 +73,10 @@ use Rattle.s3_machine.specs.declared.operation.ObjectHead.{ObjectHead}
 use Rattle.s3_machine.specs.declared.operation.Replaced.{Replaced}
 use Rattle.s3_machine.specs.declared.operation.Reply.{Reply}
 use Rattle.s3_machine.specs.declared.operation.Reply.TheVariants as reply
-use Rattle.s3_machine.specs.Copies.{copied, is_onto_itself, has_last, copied_span}
+use Rattle.s3_machine.specs.Copies.{copied, is_onto_itself, has_last, copied_span, may_be_copied}
 use Rattle.s3_machine.specs.ETag.{body_etag}
 use Rattle.s3_machine.specs.Items.{items}
-use Rattle.s3_machine.specs.Limits.{is_content_type, is_listing_text, is_proper_meta, most_body_bytes, most_items, most_keys, range_limit}
+use Rattle.s3_machine.specs.Limits.{body_limit, is_content_type, is_listing_text, is_proper_meta, most_body_bytes, most_items, most_keys, range_limit}
 use Rattle.s3_machine.specs.Reading.{judged, taken}
 use Rattle.s3_machine.specs.State.{Object, Part, Upload, Bucket, State}
 use Rattle.s3_machine.specs.Finish.{finished}
@@ -293,13 +293,13 @@ abbrev pub in_upload : State → List ℕ → List ℕ → (Upload → Outcome) 
 in_upload old key id f b = in_upload_by (get b.uploads id) key old f
 
 -- ListUploads in a bucket
-abbrev pub uploads_reply : List ℕ → List ℕ → List ℕ → List ℕ → ℕ → Names Upload → Reply
-uploads_reply bucket prefix key_marker id_marker max uploads =
+abbrev pub uploads_reply : List ℕ → List ℕ → List ℕ → List ℕ → ℕ → Bool → Names Upload → Reply
+uploads_reply bucket prefix key_marker id_marker max url uploads =
     let listed = cut max (uploads_after prefix key_marker id_marker uploads) in
-    reply.Uploads bucket prefix key_marker id_marker max listed.0 listed.1
+    reply.Uploads bucket prefix key_marker id_marker max url listed.0 listed.1
 
-abbrev pub lists_uploads : State → List ℕ → List ℕ → List ℕ → List ℕ → ℕ → Bucket → Outcome
-lists_uploads old bucket prefix key_marker id_marker max b = gives (uploads_reply bucket prefix key_marker id_marker max b.uploads) old
+abbrev pub lists_uploads : State → List ℕ → List ℕ → List ℕ → List ℕ → ℕ → Bool → Bucket → Outcome
+lists_uploads old bucket prefix key_marker id_marker max url b = gives (uploads_reply bucket prefix key_marker id_marker max url b.uploads) old
 
 -- CreateUpload in a bucket: an upload without parts under the new id
 abbrev pub starts : State → List ℕ → List ℕ → Option Acl → Upload → ℕ → Bucket → Outcome
@@ -343,9 +343,14 @@ completes settings old bucket key id list moment b = completes_by (kept_as key l
 
 -- ---- copies
 
--- the object of the key in the bucket that a copy is of
-abbrev pub in_source : State → List ℕ → List ℕ → (Object → Outcome) → Bucket → Outcome
-in_source old from_bucket from_key f b = in_bucket old from_bucket (λ from. in_object_by (get from.objects from_key) old f)
+-- the copy of an object, where that meets the conditions
+abbrev pub copied_under : Conditions → State → (Object → Outcome) → Object → Outcome
+copied_under conditions old f o = unless (not (may_be_copied conditions (head_of o))) PreconditionFailed old (f o)
+
+-- the object of the key in the bucket that a copy is of, under these conditions
+abbrev pub in_source : State → List ℕ → List ℕ → Conditions → (Object → Outcome) → Bucket → Outcome
+in_source old from_bucket from_key conditions f b =
+    in_bucket old from_bucket (λ from. in_object_by (get from.objects from_key) old (copied_under conditions old f))
 
 -- CopyObject of an object: its copy in place of what stands under the key
 abbrev pub copies_object : State → List ℕ → List ℕ → List ℕ → List ℕ → Option Replaced → ℕ → Object → Outcome
@@ -354,26 +359,26 @@ copies_object old bucket key from_bucket from_key replaced moment o =
     (gives (reply.Copied false o.etag moment) (adjust bucket (put_object key (copied replaced moment o)) old))
 
 -- CopyObject in a bucket
-abbrev pub copies : State → List ℕ → List ℕ → Option Acl → List ℕ → List ℕ → Option Replaced → ℕ → Bucket → Outcome
-copies old bucket key acl from_bucket from_key replaced moment b =
+abbrev pub copies : State → List ℕ → List ℕ → Option Acl → List ℕ → List ℕ → Option Replaced → Conditions → ℕ → Bucket → Outcome
+copies old bucket key acl from_bucket from_key replaced conditions moment b =
     unless (is_other_acl acl b.acl) NotImplemented old
-    (in_source old from_bucket from_key (copies_object old bucket key from_bucket from_key replaced moment) b)
+    (in_source old from_bucket from_key conditions (copies_object old bucket key from_bucket from_key replaced moment) b)
 
 -- CopyPart of these bytes: the part in place of what stands under its number
 abbrev pub puts_copy : State → List ℕ → List ℕ → ℕ → Part → Outcome
 puts_copy old bucket id number p = gives (reply.Copied true p.etag p.modified) (adjust bucket (on_upload id (with_part number p)) old)
 
 -- CopyPart of an object, of all its bytes or of a range that it has
-abbrev pub copies_bytes : State → List ℕ → List ℕ → ℕ → Option (ℕ × ℕ) → ℕ → Object → Outcome
-copies_bytes old bucket id number range moment o =
+abbrev pub copies_bytes : Settings → State → List ℕ → List ℕ → ℕ → Option (ℕ × ℕ) → ℕ → Object → Outcome
+copies_bytes settings old bucket id number range moment o =
     unless (not (has_last range (length o.bytes))) InvalidRange old
-    (unless (nat_lt most_body_bytes (copied_span range (length o.bytes)).length) EntityTooLarge old
+    (unless (nat_lt (body_limit settings) (copied_span range (length o.bytes)).length) EntityTooLarge old
     (puts_copy old bucket id number (new_part moment (taken (copied_span range (length o.bytes)) o.bytes))))
 
 -- CopyPart in a bucket
-abbrev pub copies_part : State → List ℕ → List ℕ → List ℕ → ℕ → List ℕ → List ℕ → Option (ℕ × ℕ) → ℕ → Bucket → Outcome
-copies_part old bucket key id number from_bucket from_key range moment b =
-    in_upload old key id (λ u. in_source old from_bucket from_key (copies_bytes old bucket id number range moment) b) b
+abbrev pub copies_part : Settings → State → List ℕ → List ℕ → List ℕ → ℕ → List ℕ → List ℕ → Option (ℕ × ℕ) → Conditions → ℕ → Bucket → Outcome
+copies_part settings old bucket key id number from_bucket from_key range conditions moment b =
+    in_upload old key id (λ u. in_source old from_bucket from_key conditions (copies_bytes settings old bucket id number range moment) b) b
 
 -- ---- the step
 
@@ -395,7 +400,8 @@ step settings old (HeadObject bucket key range conditions) label id =
     in_bucket old bucket (in_readable old label.caller key (reads old (headed range conditions)))
 step settings old (DeleteObject bucket key) label id = in_bucket old bucket (deletes old bucket key)
 step settings old (GetObjectAcl bucket key) label id = in_bucket old bucket (shows_object_acl old key)
-step settings old (ListUploads bucket prefix key_marker id_marker max) label id = in_bucket old bucket (lists_uploads old bucket prefix key_marker id_marker max)
+step settings old (ListUploads bucket prefix key_marker id_marker max url) label id =
+    in_bucket old bucket (lists_uploads old bucket prefix key_marker id_marker max url)
 step settings old (CreateUpload bucket key acl content_type meta) label id =
     in_bucket old bucket (starts old bucket key acl (new_upload key content_type meta label.moment) id)
 step settings old (UploadPart bucket key upload number body) label id =
@@ -404,10 +410,10 @@ step settings old (ListParts bucket key upload marker max) label id = in_bucket 
 step settings old (CompleteUpload bucket key upload list) label id = in_bucket old bucket (completes settings old bucket key upload list label.moment)
 step settings old (AbortUpload bucket key upload) label id = in_bucket old bucket (in_upload old key upload (aborts old bucket upload))
 step settings old (DeleteObjects bucket keys quiet) label id = in_bucket old bucket (deletes_all old bucket keys quiet)
-step settings old (CopyObject bucket key acl from_bucket from_key replaced) label id =
-    in_bucket old bucket (copies old bucket key acl from_bucket from_key replaced label.moment)
-step settings old (CopyPart bucket key upload number from_bucket from_key range) label id =
-    in_bucket old bucket (copies_part old bucket key upload number from_bucket from_key range label.moment)
+step settings old (CopyObject bucket key acl from_bucket from_key replaced conditions) label id =
+    in_bucket old bucket (copies old bucket key acl from_bucket from_key replaced conditions label.moment)
+step settings old (CopyPart bucket key upload number from_bucket from_key range conditions) label id =
+    in_bucket old bucket (copies_part settings old bucket key upload number from_bucket from_key range conditions label.moment)
 
 -- an id of 128 bits that is neither open nor kept in the bucket
 pub record IsNewId (b : Bucket) (id : ℕ) : Type 0 where
@@ -430,15 +436,15 @@ IsFree old (GetObject bucket key range conditions) id = Unit {0}
 IsFree old (HeadObject bucket key range conditions) id = Unit {0}
 IsFree old (DeleteObject bucket key) id = Unit {0}
 IsFree old (GetObjectAcl bucket key) id = Unit {0}
-IsFree old (ListUploads bucket prefix key_marker id_marker max) id = Unit {0}
+IsFree old (ListUploads bucket prefix key_marker id_marker max url) id = Unit {0}
 IsFree old (CreateUpload bucket key acl content_type meta) id = (b : Bucket) → get old bucket ≡ Some b → is_other_acl acl b.acl ≡ false → IsNewId b id
 IsFree old (UploadPart bucket key upload number body) id = Unit {0}
 IsFree old (ListParts bucket key upload marker max) id = Unit {0}
 IsFree old (CompleteUpload bucket key upload list) id = Unit {0}
 IsFree old (AbortUpload bucket key upload) id = Unit {0}
 IsFree old (DeleteObjects bucket keys quiet) id = Unit {0}
-IsFree old (CopyObject bucket key acl from_bucket from_key replaced) id = Unit {0}
-IsFree old (CopyPart bucket key upload number from_bucket from_key range) id = Unit {0}
+IsFree old (CopyObject bucket key acl from_bucket from_key replaced conditions) id = Unit {0}
+IsFree old (CopyPart bucket key upload number from_bucket from_key range conditions) id = Unit {0}
 
 -- the service goes by this operation from the old state to the new one, and answers this
 pub record S3Step (settings : Settings) (old : State) (op : Op) (label : Label) (reply : Reply) (new : State) : Type 0 where
@@ -517,15 +523,15 @@ IsProperOp (GetObject bucket key range conditions) = IsPlace bucket key × IfSom
 IsProperOp (HeadObject bucket key range conditions) = IsPlace bucket key × IfSome range IsProperRange
 IsProperOp (DeleteObject bucket key) = IsPlace bucket key
 IsProperOp (GetObjectAcl bucket key) = IsPlace bucket key
-IsProperOp (ListUploads bucket prefix key_marker id_marker max) = (is_bucket bucket ≡ true) × IsProperUploads prefix key_marker id_marker max
+IsProperOp (ListUploads bucket prefix key_marker id_marker max url) = (is_bucket bucket ≡ true) × IsProperUploads prefix key_marker id_marker max
 IsProperOp (CreateUpload bucket key acl content_type meta) = IsPlace bucket key × (is_content_type content_type ≡ true) × (is_proper_meta meta ≡ true)
 IsProperOp (UploadPart bucket key upload number body) = IsPlace bucket key × IsPartNumber number × (length body ≤ most_body_bytes)
 IsProperOp (ListParts bucket key upload marker max) = IsPlace bucket key × (max ≤ most_items)
 IsProperOp (CompleteUpload bucket key upload list) = IsPlace bucket key × IsProperList list
 IsProperOp (AbortUpload bucket key upload) = IsPlace bucket key
 IsProperOp (DeleteObjects bucket keys quiet) = (is_bucket bucket ≡ true) × IsProperKeys keys
-IsProperOp (CopyObject bucket key acl from_bucket from_key replaced) = IsPlace bucket key × IsPlace from_bucket from_key × IfSome replaced IsProperReplaced
-IsProperOp (CopyPart bucket key upload number from_bucket from_key range) =
+IsProperOp (CopyObject bucket key acl from_bucket from_key replaced conditions) = IsPlace bucket key × IsPlace from_bucket from_key × IfSome replaced IsProperReplaced
+IsProperOp (CopyPart bucket key upload number from_bucket from_key range conditions) =
     IsPlace bucket key × IsPartNumber number × IsPlace from_bucket from_key × IfSome range IsProperCopyRange
 
 abbrev pub IsProper : Op → Label → Type 0

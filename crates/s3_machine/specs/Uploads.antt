@@ -144,6 +144,7 @@ etag_listed l = l.etag
 abbrev pub digests_of : List Listed → List ℕ
 digests_of list = flat_map digest_in (map etag_listed list)
 
+-- two entries of a list have the same number and the same ETag
 abbrev pub same_listed : Listed → Listed → Bool
 same_listed l m = nat_eq l.number m.number && bytes_eq l.etag m.etag
 

@@ -1,10 +1,29 @@
-//! What is asked of a copy: whether an object would be copied onto itself, and which bytes of a source are copied.
+//! What is asked of a copy: whether its source meets the conditions, whether an object would be copied onto itself, and which
+//! bytes of a source are copied.
 ghost use Rattle.std.specs.Prelude.{◌≡◌, IfSome, true};
-ghost use Rattle.s3_machine.specs.Copies.{copied_span, has_last, is_onto_itself};
+ghost use Rattle.s3_machine.specs.Copies.{copied_span, gives_bytes, has_last, is_onto_itself, may_be_copied};
 ghost use Rattle.s3_machine.specs.Step.{IsProperCopyRange};
 
-use crate::{Replaced, Span};
+use crate::reading::judge;
+use crate::{Conditions, Judged, ObjectHead, Replaced, Span};
 use gate_base::Bytes;
+
+fn gives_bytes(judged: Judged) -> bool
+    ensures { result ≡ gives_bytes judged }
+{
+    match judged {
+        Judged::Bytes { .. } => true,
+        Judged::PreconditionFailed | Judged::NotModified | Judged::InvalidRange => false,
+    }
+}
+
+/// Whether an object with this head may be copied under these conditions: where a GET under them gives its bytes. Where it
+/// mayn't, a copy is PreconditionFailed, also where the GET is NotModified. It takes no memory.
+pub fn may_be_copied(conditions: &Conditions, head: &ObjectHead) -> bool
+    ensures { result ≡ may_be_copied conditions.now head.now }
+{
+    gives_bytes(judge(None, conditions, head))
+}
 
 /// Whether an object would be copied onto itself, and nothing of it replaced.
 pub fn is_onto_itself(

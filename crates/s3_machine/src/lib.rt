@@ -20,7 +20,7 @@ pub use access::{is_other_acl, may_read};
 pub use body::Body;
 pub use code::Code;
 pub use completion::{rises, same_list, upload_etag};
-pub use copy_sources::{copied_span, has_last, is_onto_itself};
+pub use copy_sources::{copied_span, has_last, is_onto_itself, may_be_copied};
 pub use etag::body_etag;
 pub use items::{Asked, BucketItem, Item, ItemHead, PartItem, UploadItem, begins, copy_option};
 pub use laws::{law_get_after_delete, law_get_after_put};

@@ -7,8 +7,8 @@ ghost use Rattle.s3_machine.specs.Limits.{bare_name, is_content_type, is_kept_he
 use gate_base::{Pair, are_printable, is_field};
 use s3_names::{Meta, is_key};
 
-/// The most bytes of the body of a request.
-pub const MOST_BODY_BYTES: u64 = 16_777_216;
+/// The most bytes of the body of any request, whatever the settings say: 1 GiB.
+pub const MOST_BODY_BYTES: u64 = 1_073_741_824;
 
 /// The most bytes of a content type.
 pub(crate) const MOST_CONTENT_TYPE_BYTES: usize = 256;

@@ -78,7 +78,16 @@ fn copy_on_object(op: &Op) -> Result<Op, Memory>
             from_bucket,
             from_key,
             replaced,
-        } => copy_copy_object(bucket, key, *acl, from_bucket, from_key, replaced),
+            conditions,
+        } => copy_copy_object(
+            bucket,
+            key,
+            *acl,
+            from_bucket,
+            from_key,
+            replaced,
+            conditions,
+        ),
         _ => copy_on_upload(op),
     }
 }
@@ -94,7 +103,8 @@ fn copy_on_upload(op: &Op) -> Result<Op, Memory>
             key_marker,
             id_marker,
             max,
-        } => copy_list_uploads(bucket, prefix, key_marker, id_marker, *max),
+            url,
+        } => copy_list_uploads(bucket, prefix, key_marker, id_marker, *max, *url),
         Op::CreateUpload {
             bucket,
             key,
@@ -131,7 +141,17 @@ fn copy_on_upload(op: &Op) -> Result<Op, Memory>
             from_bucket,
             from_key,
             range,
-        } => copy_copy_part(bucket, key, id, *number, from_bucket, from_key, *range),
+            conditions,
+        } => copy_copy_part(
+            bucket,
+            key,
+            id,
+            *number,
+            from_bucket,
+            from_key,
+            *range,
+            conditions,
+        ),
         Op::ListBuckets
         | Op::CreateBucket { .. }
         | Op::DeleteBucket { .. }
@@ -236,9 +256,10 @@ fn copy_list_uploads(
     key_marker: &Bytes,
     id_marker: &Bytes,
     max: u32,
+    url: bool,
 ) -> Result<Op, Memory>
     ensures { IfOk result
-        (λ op. op ≡ Op.ListUploads bucket.now prefix.now key_marker.now id_marker.now max) }
+        (λ op. op ≡ Op.ListUploads bucket.now prefix.now key_marker.now id_marker.now max url) }
 {
     Ok(Op::ListUploads {
         bucket: bucket.copy()?,
@@ -246,6 +267,7 @@ fn copy_list_uploads(
         key_marker: key_marker.copy()?,
         id_marker: id_marker.copy()?,
         max,
+        url,
     })
 }
 
@@ -347,9 +369,10 @@ fn copy_copy_object(
     from_bucket: &Bytes,
     from_key: &Bytes,
     replaced: &Option<Replaced>,
+    conditions: &Conditions,
 ) -> Result<Op, Memory>
     ensures { IfOk result (λ op. op ≡ Op.CopyObject bucket.now key.now acl from_bucket.now
-        from_key.now replaced.now) }
+        from_key.now replaced.now conditions.now) }
 {
     Ok(Op::CopyObject {
         bucket: bucket.copy()?,
@@ -358,6 +381,7 @@ fn copy_copy_object(
         from_bucket: from_bucket.copy()?,
         from_key: from_key.copy()?,
         replaced: copy_option(replaced)?,
+        conditions: conditions.copy()?,
     })
 }
 
@@ -369,9 +393,10 @@ fn copy_copy_part(
     from_bucket: &Bytes,
     from_key: &Bytes,
     range: Option<(u64, u64)>,
+    conditions: &Conditions,
 ) -> Result<Op, Memory>
     ensures { IfOk result (λ op. op ≡ Op.CopyPart bucket.now key.now id.now number from_bucket.now
-        from_key.now range) }
+        from_key.now range conditions.now) }
 {
     Ok(Op::CopyPart {
         bucket: bucket.copy()?,
@@ -381,5 +406,6 @@ fn copy_copy_part(
         from_bucket: from_bucket.copy()?,
         from_key: from_key.copy()?,
         range,
+        conditions: conditions.copy()?,
     })
 }

@@ -1,14 +1,22 @@
+ghost use Rattle.std.specs.Prelude.{◌≡◌};
+ghost use Rattle.s3_machine.specs.Limits.{body_limit};
+
 use crate::items::{Asked, BucketItem, Item, PartItem, UploadItem};
+use crate::limits::MOST_BODY_BYTES;
 use crate::reading::{Conditions, Range};
 use crate::{Body, Code};
 use gate_base::{Bytes, Caller, Copying, List, Memory};
 use s3_names::{Acl, Meta};
 
-/// What holds for a whole run: the region's name, and the least size in bytes of a part that isn't the last.
+/// What holds for a whole run: the region's name, the least size in bytes of a part that isn't the last, the greatest of a body and
+/// of a part that is copied, and whether requests may ask for more than the strict profile has. A greatest size above
+/// `MOST_BODY_BYTES` counts as that.
 #[derive(Debug, Drop)]
 pub struct Settings {
     pub region: Bytes,
     pub least_part: u64,
+    pub largest_body: u64,
+    pub extended: bool,
 }
 
 impl Copying for Settings {
@@ -16,7 +24,18 @@ impl Copying for Settings {
         Ok(Settings {
             region: self.region.copy()?,
             least_part: self.least_part,
+            largest_body: self.largest_body,
+            extended: self.extended,
         })
+    }
+}
+
+impl Settings {
+    /// The most bytes of a body, and of a part that is copied.
+    pub fn body_limit(&self) -> u64
+        ensures { result ≡ body_limit self.now }
+    {
+        self.largest_body.min(MOST_BODY_BYTES)
     }
 }
 
@@ -70,7 +89,7 @@ impl Copying for Replaced {
 
 /// The operations of Amazon S3. An access control list that isn't given is the bucket's. The id of an upload is a text as it was
 /// given: one that is no open upload's is NoSuchUpload. The range of a part that is copied has the number of its first byte and
-/// that of its last.
+/// that of its last. The conditions of a copy are on its source. `url` asks for a listing with escaped texts.
 #[derive(Debug, Drop)]
 pub enum Op {
     ListBuckets,
@@ -132,6 +151,7 @@ pub enum Op {
         key_marker: Bytes,
         id_marker: Bytes,
         max: u32,
+        url: bool,
     },
     CreateUpload {
         bucket: Bytes,
@@ -177,6 +197,7 @@ pub enum Op {
         from_bucket: Bytes,
         from_key: Bytes,
         replaced: Option<Replaced>,
+        conditions: Conditions,
     },
     CopyPart {
         bucket: Bytes,
@@ -186,6 +207,7 @@ pub enum Op {
         from_bucket: Bytes,
         from_key: Bytes,
         range: Option<(u64, u64)>,
+        conditions: Conditions,
     },
 }
 
@@ -244,6 +266,7 @@ pub enum Reply {
         key_marker: Bytes,
         id_marker: Bytes,
         max: u32,
+        url: bool,
         items: List<UploadItem>,
         truncated: bool,
     },

@@ -45,10 +45,11 @@ fn copy_large_reply(reply: &Reply) -> Result<Reply, Memory>
             key_marker,
             id_marker,
             max,
+            url,
             items,
             truncated,
         } => copy_uploads(
-            bucket, prefix, key_marker, id_marker, *max, items, *truncated,
+            bucket, prefix, key_marker, id_marker, *max, *url, items, *truncated,
         ),
         Reply::Object {
             head,
@@ -117,11 +118,12 @@ fn copy_uploads(
     key_marker: &Bytes,
     id_marker: &Bytes,
     max: u32,
+    url: bool,
     items: &List<UploadItem>,
     truncated: bool,
 ) -> Result<Reply, Memory>
     ensures { IfOk result (λ reply. reply ≡ Reply.Uploads bucket.now prefix.now key_marker.now
-        id_marker.now max items.now truncated) }
+        id_marker.now max url items.now truncated) }
 {
     Ok(Reply::Uploads {
         bucket: bucket.copy()?,
@@ -129,6 +131,7 @@ fn copy_uploads(
         key_marker: key_marker.copy()?,
         id_marker: id_marker.copy()?,
         max,
+        url,
         items: items.copy()?,
         truncated,
     })

@@ -1,5 +1,6 @@
 pub mod Completing
 pub mod Listings
+pub mod NewIds
 pub mod Numbers
 pub mod Parts
 pub mod Rolls

@@ -1,15 +1,16 @@
 //! The copies of objects in the machine's running form.
 ghost use Rattle.std.specs.Prelude.{◌≡◌, length, nat_lt, true, IfOk, IfSome, OnErr};
 ghost use Rattle.s3_machine.specs.declared.operation.Op.TheVariants.{CopyObject, CopyPart};
-ghost use Rattle.s3_machine.specs.Copies.{copied, copied_span, has_last};
-ghost use Rattle.s3_machine.specs.Limits.{most_body_bytes};
+ghost use Rattle.s3_machine.specs.Copies.{copied, copied_span, has_last, may_be_copied};
+ghost use Rattle.s3_machine.specs.Limits.{body_limit};
 ghost use Rattle.s3_machine.specs.Reading.{taken};
-ghost use Rattle.s3_machine.specs.Step.{IsProper, IsProperCopyRange, S3Step};
+ghost use Rattle.s3_machine.specs.Step.{IsProper, IsProperCopyRange, S3Step, head_of};
 
 use crate::native::{Native, NativeObject, put_object};
 use gate_base::{Bytes, Copying, Memory};
 use s3_machine::{
-    Body, Code, Label, MOST_BODY_BYTES, Op, Replaced, Reply, copied_span, has_last, is_onto_itself,
+    Body, Code, Conditions, Label, Op, Replaced, Reply, Settings, copied_span, has_last,
+    is_onto_itself, may_be_copied,
 };
 use s3_names::{Acl, Meta};
 use std::alloc::Global;
@@ -48,6 +49,14 @@ impl NativeObject {
         })
     }
 
+    /// Whether it may be copied under these conditions.
+    fn may_be_copied(&self, conditions: &Conditions) -> Result<bool, Memory>
+        ensures { IfOk result (λ may. may ≡ may_be_copied conditions.now (head_of self.now)) }
+    {
+        let head = self.head()?;
+        Ok(may_be_copied(conditions, &head))
+    }
+
     /// Whether it has the last byte of the range.
     fn has_last(&self, range: Option<(u64, u64)>) -> bool
         ensures { result ≡ has_last range (length self.now.bytes) }
@@ -56,13 +65,13 @@ impl NativeObject {
     }
 
     /// Whether the range has more bytes than a part.
-    fn is_too_large(&self, range: Option<(u64, u64)>) -> bool
+    fn is_too_large(&self, settings: &Settings, range: Option<(u64, u64)>) -> bool
         requires rises { IfSome range IsProperCopyRange }
         requires within { has_last range (length self.now.bytes) ≡ true }
-        ensures { result
-            ≡ nat_lt most_body_bytes (copied_span range (length self.now.bytes)).length }
+        ensures { result ≡ nat_lt (body_limit settings.now)
+            (copied_span range (length self.now.bytes)).length }
     {
-        MOST_BODY_BYTES < copied_span(range, self.bytes.len() as u64).length
+        settings.body_limit() < copied_span(range, self.bytes.len() as u64).length
     }
 
     /// The body of a part that is copied of it.
@@ -94,7 +103,17 @@ impl Native {
                 from_bucket,
                 from_key,
                 replaced,
-            } => self.copy_object(bucket, key, *acl, from_bucket, from_key, replaced, label),
+                conditions,
+            } => self.copy_object(
+                bucket,
+                key,
+                *acl,
+                from_bucket,
+                from_key,
+                replaced,
+                conditions,
+                label,
+            ),
             Op::CopyPart {
                 bucket,
                 key,
@@ -103,6 +122,7 @@ impl Native {
                 from_bucket,
                 from_key,
                 range,
+                conditions,
             } => self.copy_part(
                 bucket,
                 key,
@@ -111,6 +131,7 @@ impl Native {
                 from_bucket,
                 from_key,
                 *range,
+                conditions,
                 label,
             ),
             _ => Err(Memory),
@@ -126,12 +147,13 @@ impl Native {
         from_bucket: &Bytes,
         from_key: &Bytes,
         replaced: &Option<Replaced>,
+        conditions: &Conditions,
         label: &Label,
     ) -> Result<Reply, Memory>
         ensures settings { self.new.settings ≡ self.old.settings }
         ensures ok { IfOk result (λ reply. S3Step self.old.settings self.old.state
-            (CopyObject bucket.now key.now acl from_bucket.now from_key.now replaced.now) label.now
-            reply self.new.state) }
+            (CopyObject bucket.now key.now acl from_bucket.now from_key.now replaced.now
+            conditions.now) label.now reply self.new.state) }
         ensures err { OnErr result (self.new.state ≡ self.old.state) }
     {
         let Some(found) = self.buckets.get(bucket.as_slice()) else {
@@ -146,6 +168,9 @@ impl Native {
         let Some(object) = source.object(from_key.as_slice()) else {
             return Ok(Reply::Refused(Code::NoSuchKey));
         };
+        if !object.may_be_copied(conditions)? {
+            return Ok(Reply::Refused(Code::PreconditionFailed));
+        }
         if is_onto_itself(bucket, key, from_bucket, from_key, replaced) {
             return Ok(Reply::Refused(Code::InvalidRequest));
         }
@@ -169,13 +194,14 @@ impl Native {
         from_bucket: &Bytes,
         from_key: &Bytes,
         range: Option<(u64, u64)>,
+        conditions: &Conditions,
         label: &Label,
     ) -> Result<Reply, Memory>
         requires { IfSome range IsProperCopyRange }
         ensures settings { self.new.settings ≡ self.old.settings }
         ensures ok { IfOk result (λ reply. S3Step self.old.settings self.old.state
-            (CopyPart bucket.now key.now id.now number from_bucket.now from_key.now range) label.now
-            reply self.new.state) }
+            (CopyPart bucket.now key.now id.now number from_bucket.now from_key.now range
+            conditions.now) label.now reply self.new.state) }
         ensures err { OnErr result (self.new.state ≡ self.old.state) }
     {
         let Some(found) = self.buckets.get(bucket.as_slice()) else {
@@ -193,10 +219,13 @@ impl Native {
         let Some(object) = source.object(from_key.as_slice()) else {
             return Ok(Reply::Refused(Code::NoSuchKey));
         };
+        if !object.may_be_copied(conditions)? {
+            return Ok(Reply::Refused(Code::PreconditionFailed));
+        }
         if !object.has_last(range) {
             return Ok(Reply::Refused(Code::InvalidRange));
         }
-        if object.is_too_large(range) {
+        if object.is_too_large(&self.settings, range) {
             return Ok(Reply::Refused(Code::EntityTooLarge));
         }
         let body = object.part_body(self.alloc, range)?;

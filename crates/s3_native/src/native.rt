@@ -18,6 +18,7 @@ ghost use Rattle.s3_machine.specs.declared.operation.Op.TheVariants.{
   DeleteObjects,
   GetObjectAcl,
 };
+ghost use Rattle.s3_native.specs.NewIds.{GivesFirstId};
 ghost use Rattle.s3_machine.specs.Step.{IsProper, S3Step, bucket_items, drop_object, drop_objects, is_other_acl, may_read, put_object, with_acl};
 
 use crate::kept::NativeKept;
@@ -79,7 +80,7 @@ impl NativeObject {
         })
     }
 
-    fn head(&self) -> Result<ObjectHead, Memory>
+    pub(crate) fn head(&self) -> Result<ObjectHead, Memory>
         ensures { IfOk result (λ head. head ≡ head_of self.now) }
     {
         Ok(ObjectHead {
@@ -376,6 +377,7 @@ impl Native {
         ensures settings { self.new.settings ≡ self.old.settings }
         ensures ok { IfOk result (λ reply. S3Step self.old.settings self.old.state op.now label.now
             reply self.new.state) }
+        ensures first { GivesFirstId self.old.state op.now label.now result }
         ensures err { OnErr result (self.new.state ≡ self.old.state) }
     {
         match op {

@@ -1,5 +1,5 @@
 //! The operations on uploads in the machine's running form.
-ghost use Rattle.std.specs.Prelude.{◌≡◌, map, IfOk, IfSome, IsTrue, None, is_some, OnOk, OnErr, Some};
+ghost use Rattle.std.specs.Prelude.{◌≡◌, map, IfOk, IfSome, IsTrue, false, None, is_some, OnOk, OnErr, Some};
 ghost use Rattle.std.specs.FinMap.{entries, from_entries, get};
 ghost use Rattle.std.specs.List.{filter};
 ghost use Rattle.gate_base.specs.Maps.{adjust, name_cmp};
@@ -30,6 +30,7 @@ ghost use Rattle.s3_machine.specs.Uploads.{
   with_part,
 };
 ghost use Rattle.s3_native.specs.Native.{added, closed, upload_item};
+ghost use Rattle.s3_native.specs.NewIds.{GivesFirstId, IsFirstNewId};
 
 use crate::kept::NativeKept;
 use crate::listing::{first_native_items, is_native_listing_cut};
@@ -178,7 +179,8 @@ fn put_part_in_native_uploads(
 
 impl NativeBucket {
     fn is_unused(&self, id: u128) -> bool
-        ensures { IsTrue result → IsNewId self.now id }
+        ensures unused { IsTrue result → IsNewId self.now id }
+        ensures used { result ≡ false → IsNewId self.now id → ⊥ }
     {
         let digits = id_digits(id);
         self.uploads.get(&digits).is_none() && self.kept.get(&digits).is_none()
@@ -186,9 +188,10 @@ impl NativeBucket {
 
     /// The first id from the word of chance on that is neither open nor kept, if few are.
     fn new_id(&self, draw: u128) -> Option<u128>
-        ensures { IfSome result (λ id. IsNewId self.now id) }
+        ensures new { IfSome result (λ id. IsNewId self.now id) }
+        ensures first { IfSome result (λ id. IsFirstNewId self.now draw id) }
     {
-        for tries in 0..TRIES {
+        'tries: for tries in 0..TRIES {
             let id = draw.wrapping_add(u128::from(tries));
             if self.is_unused(id) {
                 return Some(id);
@@ -331,6 +334,7 @@ impl Native {
         ensures settings { self.new.settings ≡ self.old.settings }
         ensures ok { IfOk result (λ reply. S3Step self.old.settings self.old.state op.now label.now
             reply self.new.state) }
+        ensures first { GivesFirstId self.old.state op.now label.now result }
         ensures err { OnErr result (self.new.state ≡ self.old.state) }
     {
         match op {
@@ -340,7 +344,8 @@ impl Native {
                 key_marker,
                 id_marker,
                 max,
-            } => self.list_uploads(bucket, prefix, key_marker, id_marker, *max, label),
+                url,
+            } => self.list_uploads(bucket, prefix, key_marker, id_marker, *max, *url, label),
             Op::CreateUpload {
                 bucket,
                 key,
@@ -380,10 +385,11 @@ impl Native {
         key_marker: &Bytes,
         id_marker: &Bytes,
         max: u32,
+        url: bool,
         label: &Label,
     ) -> Result<Reply, Memory>
         ensures { IfOk result (λ reply. S3Step self.now.settings self.now.state
-            (ListUploads bucket.now prefix.now key_marker.now id_marker.now max) label.now reply
+            (ListUploads bucket.now prefix.now key_marker.now id_marker.now max url) label.now reply
             self.now.state) }
     {
         let Some(found) = self.buckets.get(bucket.as_slice()) else {
@@ -403,13 +409,14 @@ impl Native {
             key_marker: key_marker.copy()?,
             id_marker: id_marker.copy()?,
             max,
+            url,
             items,
             truncated,
         })
     }
 
     /// Where memory runs out, the state is as before.
-    #[tactic(auto, using(crate::proofs::Completing::starts_flat, s3_machine::proofs::lemmas::StepLemmas::start_with_another_acl))]
+    #[tactic(auto, using(crate::proofs::Completing::starts_flat, crate::proofs::NewIds::first_in, s3_machine::proofs::lemmas::StepLemmas::start_with_another_acl))]
     fn create_upload(
         &mut self,
         bucket: &Bytes,
@@ -423,6 +430,8 @@ impl Native {
         ensures ok { IfOk result (λ reply. S3Step self.old.settings self.old.state
             (CreateUpload bucket.now key.now acl content_type.now meta.now) label.now reply
             self.new.state) }
+        ensures first { GivesFirstId self.old.state
+            (CreateUpload bucket.now key.now acl content_type.now meta.now) label.now result }
         ensures err { OnErr result (self.new.state ≡ self.old.state) }
     {
         let Some(found) = self.buckets.get(bucket.as_slice()) else {

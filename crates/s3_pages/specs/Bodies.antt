@@ -84,6 +84,7 @@ owner = codes "<Owner><ID>s3gate</ID><DisplayName>s3gate</DisplayName></Owner>"
 abbrev pub initiator : List ℕ
 initiator = codes "<Initiator><ID>s3gate</ID><DisplayName>s3gate</DisplayName></Initiator>"
 
+-- the one storage class
 abbrev pub storage_class : List ℕ
 storage_class = codes "<StorageClass>STANDARD</StorageClass>"
 
@@ -235,10 +236,10 @@ objects_body bucket asked items truncated =
 
 -- ---- uploads
 
-unfoldable pub upload_element : UploadItem → List ℕ
-upload_element item =
+unfoldable pub upload_element : Bool → UploadItem → List ℕ
+upload_element url item =
     codes "<Upload>"
-    ++ element (codes "Key") item.key
+    ++ text_element url (codes "Key") item.key
     ++ element (codes "UploadId") (id_text item.id)
     ++ initiator
     ++ owner
@@ -247,29 +248,33 @@ upload_element item =
     ++ codes "</Upload>"
 
 -- the markers of the next listing are the last upload's key and id
-abbrev pub next_upload_by : Option UploadItem → List ℕ
-next_upload_by None = element (codes "NextKeyMarker") [] ++ element (codes "NextUploadIdMarker") []
-next_upload_by (Some item) = element (codes "NextKeyMarker") item.key ++ element (codes "NextUploadIdMarker") (id_text item.id)
+abbrev pub next_upload_by : Bool → Option UploadItem → List ℕ
+next_upload_by url None = element (codes "NextKeyMarker") [] ++ element (codes "NextUploadIdMarker") []
+next_upload_by url (Some item) = text_element url (codes "NextKeyMarker") item.key ++ element (codes "NextUploadIdMarker") (id_text item.id)
 
-abbrev pub next_upload : List UploadItem → List ℕ
-next_upload items = next_upload_by (slice_get items (length items - 1))
+abbrev pub next_upload : Bool → List UploadItem → List ℕ
+next_upload url items = next_upload_by url (slice_get items (length items - 1))
 
-unfoldable pub uploads_asked : List ℕ → List ℕ → List ℕ → List ℕ → List ℕ
-uploads_asked bucket prefix key_marker id_marker =
+-- an id is told as it is
+unfoldable pub uploads_asked : List ℕ → List ℕ → List ℕ → List ℕ → Bool → List ℕ
+uploads_asked bucket prefix key_marker id_marker url =
     element (codes "Bucket") bucket
-    ++ element (codes "Prefix") prefix
-    ++ element (codes "KeyMarker") key_marker
+    ++ text_element url (codes "Prefix") prefix
+    ++ text_element url (codes "KeyMarker") key_marker
     ++ element (codes "UploadIdMarker") id_marker
 
-unfoldable pub uploads_body : List ℕ → List ℕ → List ℕ → List ℕ → ℕ → List UploadItem → Bool → List ℕ
-uploads_body bucket prefix key_marker id_marker max items truncated =
+unfoldable pub uploads_limits : ℕ → Bool → Bool → List ℕ
+uploads_limits max url truncated =
+    number_element (codes "MaxUploads") max ++ where_true url (codes "<EncodingType>url</EncodingType>") ++ truth_element (codes "IsTruncated") truncated
+
+unfoldable pub uploads_body : List ℕ → List ℕ → List ℕ → List ℕ → ℕ → Bool → List UploadItem → Bool → List ℕ
+uploads_body bucket prefix key_marker id_marker max url items truncated =
     declaration
     ++ root (codes "ListMultipartUploadsResult")
-    ++ uploads_asked bucket prefix key_marker id_marker
-    ++ where_true truncated (next_upload items)
-    ++ number_element (codes "MaxUploads") max
-    ++ truth_element (codes "IsTruncated") truncated
-    ++ flat_map upload_element items
+    ++ uploads_asked bucket prefix key_marker id_marker url
+    ++ where_true truncated (next_upload url items)
+    ++ uploads_limits max url truncated
+    ++ flat_map (upload_element url) items
     ++ end_of (codes "ListMultipartUploadsResult")
 
 -- of which upload a reply speaks

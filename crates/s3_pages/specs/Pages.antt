@@ -128,8 +128,8 @@ page_of (Made bucket) label resource = made_page bucket label
 page_of (Location region) label resource = xml_page 200 (location_body region) label
 page_of (AclOf acl) label resource = xml_page 200 (acl_body acl) label
 page_of (Objects bucket asked items truncated) label resource = xml_page 200 (objects_body bucket asked items truncated) label
-page_of (Uploads bucket prefix key_marker id_marker max items truncated) label resource =
-    xml_page 200 (uploads_body bucket prefix key_marker id_marker max items truncated) label
+page_of (Uploads bucket prefix key_marker id_marker max url items truncated) label resource =
+    xml_page 200 (uploads_body bucket prefix key_marker id_marker max url items truncated) label
 page_of (Stored etag) label resource = stored_page etag label
 page_of (Object head from length partial body) label resource = object_page head from length partial body label
 page_of (Started bucket key id) label resource = xml_page 200 (started_body bucket key id) label

@@ -82,6 +82,7 @@ fn other_page(alloc: Global, reply: &Reply, label: &Label, resource: &[u8]) -> R
             key_marker,
             id_marker,
             max,
+            url,
             items,
             truncated,
         } => uploads_reply_page(
@@ -91,6 +92,7 @@ fn other_page(alloc: Global, reply: &Reply, label: &Label, resource: &[u8]) -> R
             key_marker.as_slice(),
             id_marker.as_slice(),
             *max,
+            *url,
             items.as_slice(),
             *truncated,
             label,

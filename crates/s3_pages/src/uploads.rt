@@ -17,6 +17,7 @@ ghost use Rattle.s3_pages.specs.Bodies.{
   upload_place,
   uploads_asked,
   uploads_body,
+  uploads_limits,
   where_true,
 };
 ghost use Rattle.s3_pages.specs.Pages.{xml_page};
@@ -36,6 +37,7 @@ pub(crate) fn uploads_reply_page(
     key_marker: &[u8],
     id_marker: &[u8],
     max: u32,
+    url: bool,
     items: &[UploadItem],
     truncated: bool,
     label: &Label,
@@ -43,14 +45,15 @@ pub(crate) fn uploads_reply_page(
     requires dated { All IsShownUpload items.now }
     requires moment { label.now.moment < moment_limit }
     ensures { IfOk result (λ page. page ≡ xml_page 200
-        (uploads_body bucket.now prefix.now key_marker.now id_marker.now max items.now truncated)
+        (uploads_body bucket.now prefix.now key_marker.now id_marker.now max url items.now
+        truncated)
         label.now) }
 {
     Ok(Page {
         status: 200,
         headers: xml_headers(alloc, label)?,
         body: uploads_body(
-            alloc, bucket, prefix, key_marker, id_marker, max, items, truncated,
+            alloc, bucket, prefix, key_marker, id_marker, max, url, items, truncated,
         )?,
     })
 }
@@ -63,20 +66,20 @@ fn uploads_body(
     key_marker: &[u8],
     id_marker: &[u8],
     max: u32,
+    url: bool,
     items: &[UploadItem],
     truncated: bool,
 ) -> Result<Bytes, Memory>
     requires { All IsShownUpload items.now }
     ensures { IfOk result (λ body. body ≡ uploads_body bucket.now prefix.now key_marker.now
-        id_marker.now max items.now truncated) }
+        id_marker.now max url items.now truncated) }
 {
     let mut xml = Xml::new(alloc)?;
     xml.root(b"ListMultipartUploadsResult")?;
-    xml.uploads_asked(bucket, prefix, key_marker, id_marker)?;
-    xml.next_upload_markers(items, truncated)?;
-    xml.count(b"MaxUploads", max)?;
-    xml.truth(b"IsTruncated", truncated)?;
-    xml.uploads(items)?;
+    xml.uploads_asked(bucket, prefix, key_marker, id_marker, url)?;
+    xml.next_upload_markers(url, items, truncated)?;
+    xml.uploads_limits(max, url, truncated)?;
+    xml.uploads(url, items)?;
     xml.end(b"ListMultipartUploadsResult")?;
     Ok(xml.text)
 }
@@ -216,26 +219,42 @@ impl Xml {
         prefix: &[u8],
         key_marker: &[u8],
         id_marker: &[u8],
+        url: bool,
     ) -> Result<(), Memory>
         ensures { OnOk result (self.new.text ≡ self.old.text
-            ++ uploads_asked bucket.now prefix.now key_marker.now id_marker.now) }
+            ++ uploads_asked bucket.now prefix.now key_marker.now id_marker.now url) }
     {
         self.element(b"Bucket", bucket)?;
-        self.element(b"Prefix", prefix)?;
-        self.element(b"KeyMarker", key_marker)?;
+        self.shown(b"Prefix", url, prefix)?;
+        self.shown(b"KeyMarker", url, key_marker)?;
         self.element(b"UploadIdMarker", id_marker)
     }
 
-    fn next_upload_markers(&mut self, items: &[UploadItem], truncated: bool) -> Result<(), Memory>
+    #[tactic(auto, unfolding(crate::specs::Bodies::uploads_limits))]
+    fn uploads_limits(&mut self, max: u32, url: bool, truncated: bool) -> Result<(), Memory>
         ensures { OnOk result
-            (self.new.text ≡ self.old.text ++ where_true truncated (next_upload items.now)) }
+            (self.new.text ≡ self.old.text ++ uploads_limits max url truncated) }
+    {
+        self.count(b"MaxUploads", max)?;
+        self.tags_if(url, b"<EncodingType>url</EncodingType>")?;
+        self.truth(b"IsTruncated", truncated)
+    }
+
+    fn next_upload_markers(
+        &mut self,
+        url: bool,
+        items: &[UploadItem],
+        truncated: bool,
+    ) -> Result<(), Memory>
+        ensures { OnOk result
+            (self.new.text ≡ self.old.text ++ where_true truncated (next_upload url items.now)) }
     {
         if !truncated {
             return Ok(());
         }
         match items.last() {
             Some(item) => {
-                self.element(b"NextKeyMarker", item.key.as_slice())?;
+                self.shown(b"NextKeyMarker", url, item.key.as_slice())?;
                 self.id(b"NextUploadIdMarker", item.id)
             }
             None => {
@@ -245,23 +264,24 @@ impl Xml {
         }
     }
 
-    fn uploads(&mut self, items: &[UploadItem]) -> Result<(), Memory>
+    fn uploads(&mut self, url: bool, items: &[UploadItem]) -> Result<(), Memory>
         requires { All IsShownUpload items.now }
-        ensures { OnOk result (self.new.text ≡ self.old.text ++ flat_map upload_element items.now) }
+        ensures { OnOk result
+            (self.new.text ≡ self.old.text ++ flat_map (upload_element url) items.now) }
     {
         for item in items {
-            self.upload(item)?;
+            self.upload(url, item)?;
         }
         Ok(())
     }
 
     #[tactic(auto, unfolding(crate::specs::Bodies::upload_element))]
-    fn upload(&mut self, item: &UploadItem) -> Result<(), Memory>
+    fn upload(&mut self, url: bool, item: &UploadItem) -> Result<(), Memory>
         requires { IsShownUpload item.now }
-        ensures { OnOk result (self.new.text ≡ self.old.text ++ upload_element item.now) }
+        ensures { OnOk result (self.new.text ≡ self.old.text ++ upload_element url item.now) }
     {
         self.tags(b"<Upload>")?;
-        self.element(b"Key", item.key.as_slice())?;
+        self.shown(b"Key", url, item.key.as_slice())?;
         self.id(b"UploadId", item.id)?;
         self.initiator()?;
         self.owner()?;

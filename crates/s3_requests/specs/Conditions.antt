@@ -1,6 +1,7 @@
--- The conditions of a GET or a HEAD. Source: RFC 9110, sections 8.8.3 (entity tags), 13.1.1 to 13.1.4 (If-Match, If-None-Match,
--- If-Modified-Since, If-Unmodified-Since) and 5.6.7 (dates); that tags stand with quotes or without them, and are compared
--- without the `W/` of a weak one, is this profile's.
+-- The conditions of a GET or a HEAD, and those of a copy on its source. Sources: RFC 9110, sections 8.8.3 (entity tags), 13.1.1 to
+-- 13.1.4 (If-Match, If-None-Match, If-Modified-Since, If-Unmodified-Since) and 5.6.7 (dates); Amazon S3 API Reference, "CopyObject"
+-- and "UploadPartCopy"; that tags stand with quotes or without them, and are compared without the `W/` of a weak one, is this
+-- profile's.
 use Rattle.std.specs.Prelude.{ℕ, Bool, ◌&&◌, ◌==◌, ◌-◌, nat_eq, nat_le, if◌then◌else◌, List, map, take, drop, length, slice_get, codes, bytes_eq, Option, false}
 use Rattle.std.specs.List.{prefix_len, suffix_len, slice_split, starts_with}
 use Rattle.std.specs.Option.{option_map_or}
@@ -57,10 +58,24 @@ date_of text = parse_secs text
 abbrev pub given_date : List ℕ → List Pair → Option ℕ
 given_date name headers = date_of (text_of name headers)
 
-abbrev pub given_conditions : List Pair → Conditions
-given_conditions headers = record {
-  matched = given_etags (codes "if-match") headers;
-  unmatched = given_etags (codes "if-none-match") headers;
-  modified = given_date (codes "if-modified-since") headers;
-  unmodified = given_date (codes "if-unmodified-since") headers;
+-- the conditions that headers of these names make
+abbrev pub conditions_named : List ℕ → List ℕ → List ℕ → List ℕ → List Pair → Conditions
+conditions_named matched unmatched modified unmodified headers = record {
+  matched = given_etags matched headers;
+  unmatched = given_etags unmatched headers;
+  modified = given_date modified headers;
+  unmodified = given_date unmodified headers;
 }
+
+abbrev pub given_conditions : List Pair → Conditions
+given_conditions headers = conditions_named (codes "if-match") (codes "if-none-match") (codes "if-modified-since") (codes "if-unmodified-since") headers
+
+-- those of a copy on its source
+abbrev pub given_source_conditions : List Pair → Conditions
+given_source_conditions headers =
+    conditions_named
+    (codes "x-amz-copy-source-if-match")
+    (codes "x-amz-copy-source-if-none-match")
+    (codes "x-amz-copy-source-if-modified-since")
+    (codes "x-amz-copy-source-if-unmodified-since")
+    headers

@@ -11,7 +11,8 @@ use Rattle.md5.specs.Md5.{md5}
 use Rattle.gate_base.specs.declared.page.Pair.{Pair}
 use Rattle.s3_names.specs.Meta.{has_name, with_pair}
 use Rattle.s3_bodies.specs.LocationTest.{is_any, names_location}
-use Rattle.s3_machine.specs.Limits.{is_kept_header, is_proper_pair, most_body_bytes}
+use Rattle.s3_machine.specs.declared.operation.Settings.{Settings}
+use Rattle.s3_machine.specs.Limits.{body_limit, is_kept_header, is_proper_pair}
 use Rattle.s3_requests.specs.declared.rows.Row.{Row}
 use Rattle.s3_requests.specs.declared.rows.Row.TheVariants.{CopyObject}
 use Rattle.http_wire.specs.Headers.{has_header, text_of}
@@ -82,9 +83,9 @@ is_bad_entry entry = not (is_proper_pair entry)
 abbrev pub has_bad_entry : List Pair → Bool
 has_bad_entry meta = list_any is_bad_entry meta
 
--- more bytes than any body that is read
-abbrev pub asks_with_long_body : List ℕ → Bool
-asks_with_long_body body = nat_lt most_body_bytes (length body)
+-- more bytes than a body may have in this run
+abbrev pub asks_with_long_body : Settings → List ℕ → Bool
+asks_with_long_body settings body = nat_lt (body_limit settings) (length body)
 
 -- the location of a bucket: the region of the service, or none
 abbrev pub is_here : List ℕ → List ℕ → Bool

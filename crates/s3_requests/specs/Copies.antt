@@ -1,5 +1,6 @@
 -- What a request to copy asks for beside its bucket and its key. Sources: Amazon S3 API Reference, "CopyObject" and "UploadPartCopy". That no
--- version of a source can be named and no condition on it, which texts name a source, and the limits of ranges are this profile's.
+-- version of a source can be named, and a condition on it in the extended profile alone, which texts name a source, and the limits of
+-- ranges are this profile's.
 use Rattle.std.specs.Prelude.{ℕ, Bool, true, false, not, ◌&&◌, ◌||◌, ◌==◌, nat_eq, if◌then◌else◌, List, [], ◌∷◌, length, codes, bytes_eq}
 use Rattle.std.specs.Prelude.{Option, Some, None, is_none, option_map, option_and_then, Result, Ok, Err}
 use Rattle.std.specs.List.{list_any, starts_with, before_first, after_first}
@@ -15,10 +16,12 @@ use Rattle.s3_machine.specs.declared.operation.Op.{Op}
 use Rattle.s3_machine.specs.declared.operation.Op.TheVariants as op
 use Rattle.s3_machine.specs.declared.reading.Range.{Range}
 use Rattle.s3_machine.specs.declared.reading.Range.TheVariants.{FromTo, From, Last}
+use Rattle.s3_machine.specs.Conditions.{no_conditions}
 use Rattle.http_wire.specs.Headers.{has_header, text_of}
 use Rattle.s3_requests.specs.declared.copies.Source.{Source}
 use Rattle.s3_requests.specs.declared.rows.Row.{Row}
 use Rattle.s3_requests.specs.declared.rows.Row.TheVariants.{PutObject, UploadPart, CopyObject, UploadPartCopy}
+use Rattle.s3_requests.specs.Conditions.{given_source_conditions}
 use Rattle.s3_requests.specs.Ranges.{range_of}
 use Rattle.s3_requests.specs.Uploads.{given_upload, given_part_number}
 
@@ -48,13 +51,23 @@ copy_source_text headers = text_of (codes "x-amz-copy-source") headers
 abbrev pub is_source_condition : Pair → Bool
 is_source_condition header = starts_with nat_eq header.name (codes "x-amz-copy-source-if-")
 
--- a version of the source, or a condition on it
-abbrev pub asks_further : List Pair → Bool
-asks_further headers = list_any is_question (copy_source_text headers) || list_any is_source_condition headers
+-- one that the extended profile has
+abbrev pub is_extended_condition : Pair → Bool
+is_extended_condition header =
+    bytes_eq header.name (codes "x-amz-copy-source-if-match") || bytes_eq header.name (codes "x-amz-copy-source-if-none-match")
+    || bytes_eq header.name (codes "x-amz-copy-source-if-modified-since") || bytes_eq header.name (codes "x-amz-copy-source-if-unmodified-since")
 
--- a source of a row that copies nothing; of a copy, more than its source
-abbrev pub has_unsupported_source : Row → List Pair → Bool
-has_unsupported_source row headers = if is_copy row then asks_further headers else names_source headers
+-- one that isn't taken
+abbrev pub is_untaken_condition : Bool → Pair → Bool
+is_untaken_condition extended header = is_source_condition header && not (extended && is_extended_condition header)
+
+-- a version of the source, or a condition on it that isn't taken
+abbrev pub asks_further : Bool → List Pair → Bool
+asks_further extended headers = list_any is_question (copy_source_text headers) || list_any (is_untaken_condition extended) headers
+
+-- a source of a row that copies nothing; of a copy, more of its source than is taken
+abbrev pub has_unsupported_source : Bool → Row → List Pair → Bool
+has_unsupported_source extended row headers = if is_copy row then asks_further extended headers else names_source headers
 
 -- ---- the source
 
@@ -112,14 +125,20 @@ has_bad_range row headers = has_header (codes "x-amz-copy-source-range") headers
 
 -- the place of a source, with what is copied of it
 abbrev pub source_at : List Pair → List ℕ × List ℕ → Source
-source_at headers place = record { bucket = place.0; key = place.1; range = copied_range headers; replaces = replaces headers }
+source_at headers place = record {
+  bucket = place.0;
+  key = place.1;
+  range = copied_range headers;
+  replaces = replaces headers;
+  conditions = given_source_conditions headers;
+}
 
 abbrev pub source_of : Row → List Pair → Option Source
 source_of row headers =
     if has_bad_directive headers || has_bad_range row headers then None else option_map (source_at headers) (place_named (copy_source_text headers))
 
 abbrev pub no_source : Source
-no_source = record { bucket = []; key = []; range = None; replaces = false }
+no_source = record { bucket = []; key = []; range = None; replaces = false; conditions = no_conditions }
 
 -- the source of a row that copies, if it can be read. No other row has one
 abbrev pub taken_source : Row → List Pair → Option Source
@@ -144,4 +163,4 @@ has_body_of_copy row body = is_copy row && not (length body == 0)
 -- UploadPartCopy, of a bucket, a key and a query
 abbrev pub part_copy_asked : List ℕ → List ℕ → List Pair → Source → Op
 part_copy_asked bucket key query source =
-    op.CopyPart bucket key (given_upload query) (given_part_number query) source.bucket source.key source.range
+    op.CopyPart bucket key (given_upload query) (given_part_number query) source.bucket source.key source.range source.conditions

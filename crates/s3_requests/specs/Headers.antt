@@ -21,6 +21,7 @@ is_unsupported_kind name =
     starts_with nat_eq name (codes "x-amz-server-side-encryption") || starts_with nat_eq name (codes "x-amz-object-lock")
     || starts_with nat_eq name (codes "x-amz-bucket-object-lock") || starts_with nat_eq name (codes "x-amz-grant-")
 
+-- a header asks for what isn't implemented; one of several headers does
 abbrev pub is_unsupported : Pair → Bool
 is_unsupported header = is_unsupported_name header.name || is_unsupported_kind header.name
 

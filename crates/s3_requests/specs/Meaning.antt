@@ -89,7 +89,7 @@ list_reasons row message caller = reason (has_bad_list row message.body) Malform
 
 abbrev pub body_reasons : Settings → Row → Message → Caller → List Reason
 body_reasons settings row message caller =
-    reason (asks_with_long_body message.body) EntityTooLarge
+    reason (asks_with_long_body settings message.body) EntityTooLarge
     ∷ reason (has_bad_location row message.body) MalformedXML
     ∷ reason (has_other_location row settings.region message.body) InvalidArgument
     ∷ list_reasons row message caller
@@ -126,7 +126,7 @@ digest_reasons settings row message target caller =
 abbrev pub header_reasons : Settings → Row → Message → Target → Caller → List Reason
 header_reasons settings row message target caller =
     reason (has_unsupported message.headers) NotImplemented
-    ∷ reason (has_unsupported_source row message.headers) NotImplemented
+    ∷ reason (has_unsupported_source settings.extended row message.headers) NotImplemented
     ∷ reason (is_chunked message.headers) NotImplemented
     ∷ reason (is_conditional_write message.method message.headers) NotImplemented
     ∷ reason (has_other_acl message.headers) NotImplemented
@@ -136,7 +136,7 @@ header_reasons settings row message target caller =
 
 abbrev pub reasons : Settings → Row → Message → Target → Caller → List Reason
 reasons settings row message target caller =
-    reason (has_foreign_name row target.query) NotImplemented
+    reason (has_foreign_name settings.extended row target.query) NotImplemented
     ∷ reason (has_name_twice target.query) InvalidArgument
     ∷ header_reasons settings row message target caller
 

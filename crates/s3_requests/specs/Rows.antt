@@ -128,6 +128,7 @@ is_method method =
 abbrev pub level_of : List ℕ → List ℕ → Level
 level_of bucket key = if length key == 0 then (if length bucket == 0 then Service else Bucket) else Key
 
+-- two levels are the same
 abbrev pub is_same_level : Level → Level → Bool
 is_same_level Service Service = true
 is_same_level Bucket Bucket = true
@@ -141,9 +142,11 @@ counts_as_query_name pair = not (bytes_eq pair.name (codes "x-id"))
 abbrev pub asked : List Pair → List Pair
 asked query = filter counts_as_query_name query
 
+-- a name counts in a query
 abbrev pub is_asked : List Pair → List ℕ → Bool
 is_asked query name = list_any (λ pair. bytes_eq pair.name name) (asked query)
 
+-- a name is one of these
 abbrev pub is_among : List ℕ → List (List ℕ) → Bool
 is_among name names = list_any (λ other. bytes_eq name other) names
 

@@ -25,4 +25,5 @@ replaced_by taken = if taken.source.replaces then Some (record { content_type = 
 
 -- CopyObject, of a bucket and a key
 abbrev pub copy_asked : List ℕ → List ℕ → Taken → Op
-copy_asked bucket key taken = op.CopyObject bucket key taken.acl taken.source.bucket taken.source.key (replaced_by taken)
+copy_asked bucket key taken =
+    op.CopyObject bucket key taken.acl taken.source.bucket taken.source.key (replaced_by taken) taken.source.conditions

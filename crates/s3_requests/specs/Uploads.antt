@@ -70,7 +70,7 @@ has_bad_number query =
 abbrev pub uploads_asked : List ℕ → List Pair → Op
 uploads_asked bucket query =
     ListUploads bucket (text_at (codes "prefix") query) (text_at (codes "key-marker") query) (text_at (codes "upload-id-marker") query)
-    (most_by (codes "max-uploads") query)
+    (most_by (codes "max-uploads") query) (is_asked query (codes "encoding-type"))
 
 -- ListParts, of a bucket and a key
 abbrev pub parts_asked : List ℕ → List ℕ → List Pair → Op

@@ -1,9 +1,9 @@
-//! The conditions of a GET or a HEAD.
+//! The conditions of a GET or a HEAD, and those of a copy on its source.
 ghost use Rattle.std.specs.Prelude.{◌≡◌, ◌-◌, ◌≤◌, ◌<◌, ◌++◌, [], ◌∷◌, false, map, drop, length, position, slice_get, IfOk, IfSome, OnOk};
 ghost use Rattle.std.specs.List.{prefix_len, suffix_len, slice_split};
 ghost use Rattle.std.specs.Option.{option_map_or};
 ghost use Rattle.http_wire.specs.Closing.{is_comma};
-ghost use Rattle.s3_requests.specs.Conditions.{is_condition_space, is_quote, behind_spaces, before_spaces, without_weak, is_quoted, without_quotes, etag_of, etags_of, given_etags, date_of, given_date, given_conditions};
+ghost use Rattle.s3_requests.specs.Conditions.{is_condition_space, is_quote, behind_spaces, before_spaces, without_weak, is_quoted, without_quotes, etag_of, etags_of, given_etags, date_of, given_date, conditions_named, given_conditions, given_source_conditions};
 
 use gate_base::{Bytes, List, Memory, Pair};
 use http_wire::{has_header, text_of};
@@ -181,18 +181,55 @@ fn given_date(alloc: Global, headers: &[Pair], name: &[u8]) -> Result<Option<u64
     Ok(condition_header_date(text.as_slice()))
 }
 
-/// The conditions that the headers of a GET or a HEAD make (RFC 9110, section 13.1).
-pub fn given_conditions(alloc: Global, headers: &[Pair]) -> Result<Conditions, Memory>
-    ensures { IfOk result (λ conditions. conditions ≡ given_conditions headers.now) }
+/// The conditions that headers of these names make.
+fn conditions_named(
+    alloc: Global,
+    headers: &[Pair],
+    matched: &[u8],
+    unmatched: &[u8],
+    modified: &[u8],
+    unmodified: &[u8],
+) -> Result<Conditions, Memory>
+    ensures { IfOk result (λ conditions. conditions
+        ≡ conditions_named matched.now unmatched.now modified.now unmodified.now headers.now) }
 {
-    let modified = given_date(alloc, headers, b"if-modified-since")?;
-    let unmodified = given_date(alloc, headers, b"if-unmodified-since")?;
-    let matched = given_etags(alloc, headers, b"if-match")?;
-    let unmatched = given_etags(alloc, headers, b"if-none-match")?;
+    let modified = given_date(alloc, headers, modified)?;
+    let unmodified = given_date(alloc, headers, unmodified)?;
+    let matched = given_etags(alloc, headers, matched)?;
+    let unmatched = given_etags(alloc, headers, unmatched)?;
     Ok(Conditions {
         matched,
         unmatched,
         modified,
         unmodified,
     })
+}
+
+/// The conditions that the headers of a GET or a HEAD make (RFC 9110, section 13.1).
+pub fn given_conditions(alloc: Global, headers: &[Pair]) -> Result<Conditions, Memory>
+    ensures { IfOk result (λ conditions. conditions ≡ given_conditions headers.now) }
+{
+    conditions_named(
+        alloc,
+        headers,
+        b"if-match",
+        b"if-none-match",
+        b"if-modified-since",
+        b"if-unmodified-since",
+    )
+}
+
+/// The conditions that the headers of a copy make on its source (Amazon S3 API Reference, "CopyObject"). They are read as those
+/// of a GET.
+pub fn given_source_conditions(alloc: Global, headers: &[Pair]) -> Result<Conditions, Memory>
+    ensures { IfOk result (λ conditions. conditions ≡ given_source_conditions headers.now) }
+{
+    conditions_named(
+        alloc,
+        headers,
+        b"x-amz-copy-source-if-match",
+        b"x-amz-copy-source-if-none-match",
+        b"x-amz-copy-source-if-modified-since",
+        b"x-amz-copy-source-if-unmodified-since",
+    )
 }

@@ -18,7 +18,7 @@ use gate_base::{Bytes, Memory, Pair};
 use http_wire::{has_header, text_of};
 use md5::{Digest, Md5};
 use s3_bodies::{BodyFault, read_location};
-use s3_machine::{MOST_BODY_BYTES, is_meta_name, is_meta_value};
+use s3_machine::{Settings, is_meta_name, is_meta_value};
 use s3_names::Meta;
 use std::alloc::Global;
 
@@ -194,11 +194,11 @@ fn any_bad_entry(entries: &[Pair]) -> bool
     entries.iter().any(|entry| is_bad_entry(entry))
 }
 
-/// Whether the body has more bytes than any that is read.
-pub fn asks_with_long_body(body: &[u8]) -> bool
-    ensures { result ≡ asks_with_long_body body.now }
+/// Whether the body has more bytes than it may have in this run.
+pub fn asks_with_long_body(settings: &Settings, body: &[u8]) -> bool
+    ensures { result ≡ asks_with_long_body settings.now body.now }
 {
-    MOST_BODY_BYTES < body.len() as u64
+    settings.body_limit() < body.len() as u64
 }
 
 fn is_here(region: &[u8], location: &[u8]) -> bool

@@ -2,14 +2,15 @@
 ghost use Rattle.std.specs.Prelude.{◌≡◌, ◌&&◌, option_and_then, option_map, IfOk};
 ghost use Rattle.std.specs.List.{list_any};
 ghost use Rattle.s3_names.specs.Target.{is_question};
-ghost use Rattle.s3_requests.specs.Copies.{names_source, copying, is_copy, copy_source_text, is_source_condition, asks_further, has_unsupported_source, without_slash, place_in, place_named, directive, replaces, has_bad_directive, from_to, copied_range, takes_range, has_bad_range, source_at, source_of, taken_source, has_body_of_copy, part_copy_asked};
+ghost use Rattle.s3_requests.specs.Copies.{names_source, copying, is_copy, copy_source_text, is_source_condition, is_extended_condition, is_untaken_condition, asks_further, has_unsupported_source, without_slash, place_in, place_named, directive, replaces, has_bad_directive, from_to, copied_range, takes_range, has_bad_range, source_at, source_of, taken_source, has_body_of_copy, part_copy_asked};
 
+use crate::conditions::given_source_conditions;
 use crate::ranges::range_of;
 use crate::rows::Row;
 use crate::uploads::{given_part_number, given_upload};
 use gate_base::{Bytes, Memory, Pair, cut};
 use http_wire::{has_header, text_of};
-use s3_machine::{Op, Range};
+use s3_machine::{Conditions, Op, Range};
 use s3_names::{NameFault, decode, is_bucket, is_key};
 use std::alloc::Global;
 
@@ -22,6 +23,8 @@ pub struct Source {
     pub range: Option<(u64, u64)>,
     /// Whether a content type and metadata of its own replace those of the source.
     pub replaces: bool,
+    /// What the source has to meet.
+    pub conditions: Conditions,
 }
 
 fn names_source(headers: &[Pair]) -> bool
@@ -62,10 +65,28 @@ fn is_source_condition(header: &Pair) -> bool
     header.name.as_slice().starts_with(b"x-amz-copy-source-if-")
 }
 
-fn has_source_condition(headers: &[Pair]) -> bool
-    ensures { result ≡ list_any is_source_condition headers.now }
+fn is_extended_condition(header: &Pair) -> bool
+    ensures { result ≡ is_extended_condition header.now }
 {
-    headers.iter().any(|header| is_source_condition(header))
+    let name = header.name.as_slice();
+    name == b"x-amz-copy-source-if-match".as_slice()
+        || name == b"x-amz-copy-source-if-none-match".as_slice()
+        || name == b"x-amz-copy-source-if-modified-since".as_slice()
+        || name == b"x-amz-copy-source-if-unmodified-since".as_slice()
+}
+
+fn is_untaken_condition(extended: bool, header: &Pair) -> bool
+    ensures { result ≡ is_untaken_condition extended header.now }
+{
+    is_source_condition(header) && !(extended && is_extended_condition(header))
+}
+
+fn has_untaken_condition(extended: bool, headers: &[Pair]) -> bool
+    ensures { result ≡ list_any (is_untaken_condition extended) headers.now }
+{
+    headers
+        .iter()
+        .any(|header| is_untaken_condition(extended, header))
 }
 
 fn has_copy_source_question(text: &[u8]) -> bool
@@ -74,20 +95,27 @@ fn has_copy_source_question(text: &[u8]) -> bool
     text.iter().any(|byte| *byte == b'?')
 }
 
-/// Whether a version of the source is named, or a condition on it.
-fn asks_further(alloc: Global, headers: &[Pair]) -> Result<bool, Memory>
-    ensures { IfOk result (λ asks. asks ≡ asks_further headers.now) }
+/// Whether a version of the source is named, or a condition on it that isn't taken.
+fn asks_further(alloc: Global, extended: bool, headers: &[Pair]) -> Result<bool, Memory>
+    ensures { IfOk result (λ asks. asks ≡ asks_further extended headers.now) }
 {
     let text = copy_source_text(alloc, headers)?;
-    Ok(has_copy_source_question(text.as_slice()) || has_source_condition(headers))
+    Ok(has_copy_source_question(text.as_slice()) || has_untaken_condition(extended, headers))
 }
 
-/// Whether a source is named where nothing is copied, or more of a copy's source than this profile has.
-pub fn has_unsupported_source(alloc: Global, row: Row, headers: &[Pair]) -> Result<bool, Memory>
-    ensures { IfOk result (λ unsupported. unsupported ≡ has_unsupported_source row headers.now) }
+/// Whether a source is named where nothing is copied, or more of a copy's source than is taken: a version of it, or a condition
+/// on it that the profile doesn't have. The extended profile has four.
+pub fn has_unsupported_source(
+    alloc: Global,
+    extended: bool,
+    row: Row,
+    headers: &[Pair],
+) -> Result<bool, Memory>
+    ensures { IfOk result
+        (λ unsupported. unsupported ≡ has_unsupported_source extended row headers.now) }
 {
     if is_copy(row) {
-        asks_further(alloc, headers)
+        asks_further(alloc, extended, headers)
     } else {
         Ok(names_source(headers))
     }
@@ -197,13 +225,30 @@ fn source_of(alloc: Global, row: Row, headers: &[Pair]) -> Result<Option<Source>
     let text = copy_source_text(alloc, headers)?;
     match copy_source_place_named(alloc, text.as_slice())? {
         None => Ok(None),
-        Some((bucket, key)) => Ok(Some(Source {
-            bucket,
-            key,
-            range,
-            replaces: replaces(alloc, headers)?,
-        })),
+        Some((bucket, key)) => Ok(Some(source_at(alloc, headers, bucket, key, range)?)),
     }
+}
+
+/// The source at a place, with what is copied of it.
+fn source_at(
+    alloc: Global,
+    headers: &[Pair],
+    bucket: Bytes,
+    key: Bytes,
+    range: Option<(u64, u64)>,
+) -> Result<Source, Memory>
+    requires { range ≡ copied_range headers.now }
+    ensures { IfOk result (λ source. source ≡ source_at headers.now (bucket, key)) }
+{
+    let replaces = replaces(alloc, headers)?;
+    let conditions = given_source_conditions(alloc, headers)?;
+    Ok(Source {
+        bucket,
+        key,
+        range,
+        replaces,
+        conditions,
+    })
 }
 
 /// The source of a row that copies, and none of any other row. `None` where the source or what is said of it can't be
@@ -219,6 +264,7 @@ pub fn taken_source(alloc: Global, row: Row, headers: &[Pair]) -> Result<Option<
         key: Bytes::new(alloc),
         range: None,
         replaces: false,
+        conditions: Conditions::none(),
     }))
 }
 
@@ -248,5 +294,6 @@ pub fn part_copy_asked(
         from_bucket: source.bucket,
         from_key: source.key,
         range: source.range,
+        conditions: source.conditions,
     })
 }

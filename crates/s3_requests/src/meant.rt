@@ -67,8 +67,9 @@ impl Copying for Meant {
 }
 
 /// What a request means whose target was read (Amazon S3 API Reference, restated by this profile): the operation that it
-/// asks for, or the code of the first reason to refuse it. The body moves into an operation that has one; the method and
-/// the target of the message stay.
+/// asks for, or the code of the first reason to refuse it. Where the settings are extended, a copy may have conditions on its
+/// source, and a listing of uploads an empty delimiter and escaped texts; else these are NotImplemented. The body moves into an
+/// operation that has one; the method and the target of the message stay.
 pub fn meaning(
     alloc: Global,
     message: &mut Message,
@@ -135,7 +136,7 @@ fn meant_from_row(
         (op_of row message.entry.now target.now)) }
     ensures keeps { KeepsFront message.entry.now message.exit.now }
 {
-    if has_foreign_name(row, target.query.pairs()) {
+    if has_foreign_name(settings.extended, row, target.query.pairs()) {
         return Ok(Meant::Refused(Code::NotImplemented));
     }
     if has_name_twice(target.query.pairs()) {
@@ -163,7 +164,7 @@ fn meant_from_headers(
     if has_unsupported(headers) {
         return Ok(Meant::Refused(Code::NotImplemented));
     }
-    if has_unsupported_source(alloc, row, headers)? {
+    if has_unsupported_source(alloc, settings.extended, row, headers)? {
         return Ok(Meant::Refused(Code::NotImplemented));
     }
     if is_chunked(alloc, headers)? {
@@ -345,7 +346,7 @@ fn meant_from_body(
         (op_of row message.entry.now target.now)) }
     ensures keeps { KeepsFront message.entry.now message.exit.now }
 {
-    if asks_with_long_body(message.body.as_slice()) {
+    if asks_with_long_body(settings, message.body.as_slice()) {
         return Ok(Meant::Refused(Code::EntityTooLarge));
     }
     let region = settings.region.as_slice();

@@ -2,7 +2,7 @@
 ghost use Rattle.std.specs.Prelude.{◌≡◌, filter, find, bytes_eq};
 ghost use Rattle.std.specs.Option.{option_copied};
 ghost use Rattle.s3_requests.specs.Rows.{counts_as_query_name, is_asked};
-ghost use Rattle.s3_requests.specs.Query.{is_foreign, has_foreign_name, is_unknown, has_unknown_name, occurrences, is_given_twice, has_name_twice, text_at};
+ghost use Rattle.s3_requests.specs.Query.{is_extended_pair, is_foreign, has_foreign_name, is_unknown, has_unknown_name, occurrences, is_given_twice, has_name_twice, text_at};
 
 use crate::rows::{Row, is_known_query_name, is_query_name_of_row};
 use gate_base::Pair;
@@ -45,20 +45,33 @@ pub fn has_unknown_name(query: &[Pair]) -> bool
         .any(|pair| is_unknown(pair))
 }
 
-fn is_foreign(row: Row, pair: &Pair) -> bool
-    ensures { result ≡ is_foreign row pair.now }
+/// Whether the extended profile has this of the row: of a listing of uploads an empty delimiter, and the encoding of its texts.
+fn is_extended_pair(row: Row, pair: &Pair) -> bool
+    ensures { result ≡ is_extended_pair row pair.now }
 {
-    !is_query_name_of_row(pair.name.as_slice(), row)
+    match row {
+        Row::ListMultipartUploads => {
+            (has_query_name(b"delimiter", pair) && pair.value.len() == 0)
+                || has_query_name(b"encoding-type", pair)
+        }
+        _ => false,
+    }
+}
+
+fn is_foreign(extended: bool, row: Row, pair: &Pair) -> bool
+    ensures { result ≡ is_foreign extended row pair.now }
+{
+    !is_query_name_of_row(pair.name.as_slice(), row) && !(extended && is_extended_pair(row, pair))
 }
 
 /// Whether the query has a name that the row doesn't have.
-pub fn has_foreign_name(row: Row, query: &[Pair]) -> bool
-    ensures { result ≡ has_foreign_name row query.now }
+pub fn has_foreign_name(extended: bool, row: Row, query: &[Pair]) -> bool
+    ensures { result ≡ has_foreign_name extended row query.now }
 {
     query
         .iter()
         .filter(|pair| counts_as_query_name(pair))
-        .any(|pair| is_foreign(row, pair))
+        .any(|pair| is_foreign(extended, row, pair))
 }
 
 /// How often the query has the name.

@@ -42,5 +42,6 @@ pub fn copy_asked(bucket: Bytes, key: Bytes, taken: Taken) -> Op
         from_bucket: source.bucket,
         from_key: source.key,
         replaced: replaced_by(source.replaces, taken.content_type, taken.meta),
+        conditions: source.conditions,
     }
 }

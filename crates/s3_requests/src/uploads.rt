@@ -117,6 +117,7 @@ pub fn uploads_asked(alloc: Global, bucket: Bytes, query: &[Pair]) -> Result<Op,
         key_marker,
         id_marker,
         max: most_by(query, b"max-uploads"),
+        url: is_asked(query, b"encoding-type"),
     })
 }
 

@@ -3,6 +3,7 @@ use Rattle.std.proofs.Common.{◌≡◌, ℕ, true, List, [], ◌∷◌, Result,
 use Rattle.s3_names.specs.declared.fault.NameFault.{NameFault}
 use Rattle.s3_names.specs.declared.target.Target.{Target}
 use Rattle.s3_names.specs.Target.{target_of}
+use Rattle.http_wire.specs.declared.judge.TheConstants.{BODY_LIMIT}
 use Rattle.http_wire.specs.declared.message.Message.{Message}
 use Rattle.http_wire.specs.FirstMessage.{asks}
 use Rattle.http_wire.proofs.lemmas.UniqueLemmas.{one_front}
@@ -39,12 +40,12 @@ signs_once secret region message one other a b =
 -- a request that stands first isn't both signed and unsigned
 not_both : (secret region bytes : List ℕ) (signed : Signature) → AnswersFrom secret region bytes (Signed signed) → AnswersFrom secret region bytes NoRequest → ⊥
 not_both secret region bytes signed a b =
-    let unsigned : IsUnsigned (asks a.0 a.1) = subst IsUnsigned (one_front bytes b.0 (asks a.0 a.1) b.1 a.2) b.2 in
+    let unsigned : IsUnsigned (asks a.0 a.1) = subst IsUnsigned (one_front BODY_LIMIT bytes b.0 (asks a.0 a.1) b.1 a.2) b.2 in
     true≢false (sym a.3.0 ∙ unsigned)
 
 from_once : (secret region bytes : List ℕ) (one other : Signing) → is_answer one ≡ true → is_answer other ≡ true → AnswersFrom secret region bytes one → AnswersFrom secret region bytes other → other ≡ one
 from_once secret region bytes (Signed one) (Signed other) h k a b =
-    let message : b.0 ≡ a.0 = same_message b.0 a.0 b.1 a.1 (one_front bytes (asks b.0 b.1) (asks a.0 a.1) b.2 a.2) in
+    let message : b.0 ≡ a.0 = same_message b.0 a.0 b.1 a.1 (one_front BODY_LIMIT bytes (asks b.0 b.1) (asks a.0 a.1) b.2 a.2) in
     ap Signed (signs_once secret region a.0 one other a.3 (subst (λ (m : Message). Signs secret region m other) message b.3))
 from_once secret region bytes (Signed one) NoRequest h k a b = absurd (not_both secret region bytes one a b)
 from_once secret region bytes NoRequest (Signed other) h k a b = absurd (not_both secret region bytes other b a)

@@ -10,6 +10,7 @@ use Rattle.gate_base.specs.Transcript.{Transcript}
 use Rattle.s3_names.specs.declared.fault.NameFault.{NameFault}
 use Rattle.s3_names.specs.declared.target.Target.{Target}
 use Rattle.s3_names.specs.Target.{target_of}
+use Rattle.http_wire.specs.declared.judge.TheConstants.{BODY_LIMIT}
 use Rattle.http_wire.specs.declared.message.Message.{Message}
 use Rattle.http_wire.specs.FirstMessage.{FirstMessage, asks, nothing, cut_short, refused, BeginsWith}
 use Rattle.http_wire.specs.Headers.{has_single_header}
@@ -66,8 +67,8 @@ IsUnsigned (refused kind head) = ⊤
 -- the answer to a connection of these bytes, by what stands first in them
 abbrev pub AnswersFrom : List ℕ → List ℕ → List ℕ → Signing → Type 0
 AnswersFrom secret region bytes (Signed signed) =
-    (message : Message) × (size : ℕ) × BeginsWith bytes (asks message size) × Signs secret region message signed
-AnswersFrom secret region bytes NoRequest = (front : FirstMessage) × BeginsWith bytes front × IsUnsigned front
+    (message : Message) × (size : ℕ) × BeginsWith BODY_LIMIT bytes (asks message size) × Signs secret region message signed
+AnswersFrom secret region bytes NoRequest = (front : FirstMessage) × BeginsWith BODY_LIMIT bytes front × IsUnsigned front
 AnswersFrom secret region bytes LineFailed = ⊤
 AnswersFrom secret region bytes Memory = ⊤
 
@@ -92,7 +93,7 @@ is_failed_signing Memory = false
 -- the interim line is owed for the request that the first of these connections begins with
 abbrev pub OwesFirst : List (List ℕ) → Type 0
 OwesFirst [] = ⊥
-OwesFirst (bytes ∷ others) = OwesInterim bytes
+OwesFirst (bytes ∷ others) = OwesInterim BODY_LIMIT bytes
 
 -- what was sent on a connection when the store had counted so many calls, where the interim line is owed if P holds: that line
 -- where it is owed, and nothing else; where memory ran out maybe not even that, and where the line failed its first bytes

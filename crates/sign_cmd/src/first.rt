@@ -1,11 +1,12 @@
 ghost use Rattle.std.specs.Prelude.{◌≡◌, false, IsTrue};
 ghost use Rattle.gate_base.specs.Line.{LineServes};
+ghost use Rattle.http_wire.specs.declared.judge.TheConstants.{BODY_LIMIT};
 ghost use Rattle.http_wire.specs.Interim.{OwesInterim};
 ghost use Rattle.sign_cmd.specs.Signing.{Answers, AnswersFrom, AnswersFirst, SendsBy, SendsFirst, SignsOn, is_failed_signing};
 
 use crate::message::sign_message;
 use gate_base::{Counted, Line, Memory};
-use http_wire::{Got, Message, ReadFault, Reader};
+use http_wire::{BODY_LIMIT, Got, Message, ReadFault, Reader};
 use sigv4::Signed;
 use std::alloc::Global;
 
@@ -62,7 +63,7 @@ fn sign_next<N: Line<W>, W: Counted>(
     ensures effect { IsTrue (N.model line.old).observable
         → AnswersFrom secret.now region.now (N.model line.old).transcript.rest result }
     ensures sent { IsTrue (N.model line.old).observable
-        → SendsBy (OwesInterim (N.model line.old).transcript.rest)
+        → SendsBy (OwesInterim BODY_LIMIT (N.model line.old).transcript.rest)
         (N.model line.old).transcript.begun (W.called store.now) (N.model line.old).transcript.sent
         result (N.model line.new).transcript.sent }
 {
@@ -70,7 +71,7 @@ fn sign_next<N: Line<W>, W: Counted>(
         Ok(reader) => reader,
         Err(_) => return Signing::Memory,
     };
-    match reader.next_request(line, store) {
+    match reader.next_request(BODY_LIMIT, line, store) {
         Ok(Got::Request(message)) => signing_of_message(alloc, secret, region, &message),
         Ok(Got::End) => Signing::NoRequest,
         Ok(Got::CutShort(_)) => Signing::NoRequest,

@@ -72,6 +72,8 @@ pub(crate) enum Lack {
 pub(crate) struct Client<S> {
     stream: S,
     pub(crate) peer: SocketAddr,
+    /// The most bytes of a body that is read ahead.
+    largest: usize,
     phase: Phase,
     /// What came and was not given, from `given` on.
     came: Vec<u8>,
@@ -114,10 +116,18 @@ pub(crate) struct Client<S> {
 }
 
 impl<S: Read + Write + OpenStream + Drop> Client<S> {
-    pub(crate) fn new(alloc: Global, stream: S, peer: SocketAddr, now: Duration) -> Client<S> {
+    /// A client that has just come. `largest` is how many bytes a body has at most that is read ahead.
+    pub(crate) fn new(
+        alloc: Global,
+        stream: S,
+        peer: SocketAddr,
+        largest: usize,
+        now: Duration,
+    ) -> Client<S> {
         Client {
             stream,
             peer,
+            largest,
             phase: Phase::Waits,
             came: Vec::new(alloc),
             given: 0,
@@ -332,7 +342,7 @@ impl<S: Read + Write + OpenStream + Drop> Client<S> {
 
     fn find(&mut self) {
         self.sought = self.came.len();
-        match find_front(&self.came) {
+        match find_front(&self.came, self.largest) {
             Front::Part => {}
             Front::Request { size, asks } => {
                 self.size = size;

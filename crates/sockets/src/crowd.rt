@@ -54,6 +54,8 @@ pub(crate) struct Crowd<R: Net> {
     ending: bool,
     losses: u32,
     limit: Duration,
+    /// The most bytes of a body that is read ahead.
+    largest: usize,
     /// How many bytes are read ahead or wait to be sent, at most, and how many do. `full` says that a client waits for room.
     most: usize,
     held: usize,
@@ -70,6 +72,7 @@ impl<R: Net + Clock + Drop> Crowd<R> {
         listener: R::Listener,
         limit: Duration,
         most: usize,
+        largest: usize,
     ) -> io::Result<Crowd<R>> {
         listener.set_nonblocking(true)?;
         let now = rt.monotonic()?;
@@ -88,6 +91,7 @@ impl<R: Net + Clock + Drop> Crowd<R> {
             ending: false,
             losses: 0,
             limit,
+            largest,
             most,
             held: 0,
             full: false,
@@ -594,8 +598,10 @@ impl<R: Net + Clock + Drop> Crowd<R> {
         stream.set_nodelay(true)?;
         let source = stream.as_raw_fd();
         let place = self.places.take()?;
-        self.places
-            .fill(place, Client::new(self.alloc, stream, peer, self.now));
+        self.places.fill(
+            place,
+            Client::new(self.alloc, stream, peer, self.largest, self.now),
+        );
         if self.watch.add_stream(source, place).is_err() {
             self.places.empty(place);
             return Err(io::Error::from(ErrorKind::Other));

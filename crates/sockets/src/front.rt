@@ -3,8 +3,8 @@
 /// A head that isn't whole in so many bytes is left to who reads the line.
 pub(crate) const HEAD_LIMIT: usize = 16_384;
 
-/// The most bytes of a body that is read ahead.
-const BODY_LIMIT: usize = 16_777_216;
+/// The most digits of the length of a body that is read ahead.
+const DIGITS: usize = 10;
 
 /// In so many bytes a first line has to end that is judged before its head is whole. Who reads the line is given as many at
 /// once, and looks at them at once.
@@ -31,8 +31,9 @@ struct Said {
     modern: bool,
 }
 
-/// What stands at the front of bytes that more may follow. It is open as soon as no head can come of them.
-pub(crate) fn find_front(bytes: &[u8]) -> Front {
+/// What stands at the front of bytes that more may follow, where a body of at most `largest` bytes is read ahead. It is open as soon as
+/// no head can come of them.
+pub(crate) fn find_front(bytes: &[u8], largest: usize) -> Front {
     if begins_no_head(bytes) {
         return Front::Open;
     }
@@ -63,7 +64,7 @@ pub(crate) fn find_front(bytes: &[u8]) -> Front {
             }
             said.modern = line.ends_with(b"HTTP/1.1");
         } else {
-            said = heard(said, line);
+            said = heard(said, line, largest);
         }
     }
     if bytes.len() >= HEAD_LIMIT {
@@ -122,7 +123,7 @@ fn said_front(said: Said, head: usize) -> Front {
 }
 
 /// What was said, with one more line of the head.
-fn heard(said: Said, line: &[u8]) -> Said {
+fn heard(said: Said, line: &[u8], largest: usize) -> Said {
     let mut said = said;
     let Some(colon) = line.iter().position(|byte| *byte == b':') else {
         said.strange = true;
@@ -137,7 +138,7 @@ fn heard(said: Said, line: &[u8]) -> Said {
         said.strange = true;
     } else if name.eq_ignore_ascii_case(b"content-length") {
         said.strange = said.strange || said.body.is_some();
-        said.body = number(value);
+        said.body = number(value, largest);
         said.strange = said.strange || said.body.is_none();
     }
     said
@@ -155,8 +156,8 @@ fn trimmed(value: &[u8]) -> &[u8] {
 }
 
 /// The number that the digits write, where it is the length of a body that is read ahead.
-fn number(digits: &[u8]) -> Option<usize> {
-    if digits.is_empty() || digits.len() > 8 {
+fn number(digits: &[u8], largest: usize) -> Option<usize> {
+    if digits.is_empty() || digits.len() > DIGITS {
         return None;
     }
     let mut sum = 0usize;
@@ -168,5 +169,5 @@ fn number(digits: &[u8]) -> Option<usize> {
             .saturating_mul(10)
             .saturating_add((*digit & 15) as usize);
     }
-    if sum <= BODY_LIMIT { Some(sum) } else { None }
+    if sum <= largest { Some(sum) } else { None }
 }

@@ -24,8 +24,8 @@ use std::time::{Clock, Duration};
 /// Requests are read ahead, head and body, and of a reply what a client doesn't take at once is kept and sent while others are
 /// served. All that together has a bound. Past it the request that began first is given before it is there whole, and a write
 /// waits until its client has taken it. A request whose end the line doesn't know is given at once too, and then its connection
-/// doesn't give way but ends: one with a transfer coding, a head over 16,384 bytes, or a body over 16,777,216, and what can't become
-/// a request by its first byte or its first line.
+/// doesn't give way but ends: one with a transfer coding, a head over 16,384 bytes, or a body over the largest that is read ahead, and
+/// what can't become a request by its first byte or its first line.
 ///
 /// A client that expects `100 Continue` is sent that by the line, once its head is there and its body isn't. The same bytes, written
 /// before the reply, are then passed over.
@@ -58,7 +58,8 @@ impl<R: Net + Clock + Drop> TcpLine<R> {
     /// A line of the clients of a listener, with no connection open yet. `limit` is the limit of time, in seconds. At
     /// most so many `connections` begin, and without that number as many as clients ask for; one that gave way and comes again is
     /// one more. `ahead` is how many bytes are read ahead or kept to be sent in all. One client's may go 2 MiB past it, and the
-    /// buffers that hold them may be twice as large.
+    /// buffers that hold them may be twice as large. `largest` is how many bytes a body has at most that is read ahead; the length of
+    /// such a one has at most 10 digits.
     ///
     /// A limit of 0 is `ErrorKind::InvalidInput`, and want of memory `ErrorKind::OutOfMemory`. Any other error is the
     /// system's, which can't wait for the listener.
@@ -69,6 +70,7 @@ impl<R: Net + Clock + Drop> TcpLine<R> {
         limit: u64,
         connections: Option<u64>,
         ahead: usize,
+        largest: usize,
     ) -> io::Result<TcpLine<R>>
         ensures line { IfOk result (λ line.
             ⟦<TcpLine<R> as Line<NoCount>>⟧.model line ≡ silent_line false 0 0) }
@@ -79,7 +81,14 @@ impl<R: Net + Clock + Drop> TcpLine<R> {
             return Err(io::Error::from(ErrorKind::InvalidInput));
         }
         Ok(TcpLine {
-            crowd: Crowd::new(rt, alloc, listener, Duration::from_secs(limit), ahead)?,
+            crowd: Crowd::new(
+                rt,
+                alloc,
+                listener,
+                Duration::from_secs(limit),
+                ahead,
+                largest,
+            )?,
             connected: false,
             limit,
             left: connections.unwrap_or(u64::MAX),

@@ -2,6 +2,7 @@
 ghost use Rattle.std.specs.Prelude.{◌≡◌, ◌≢◌, Bool, false, if◌then◌else◌, IsTrue, None, Some};
 ghost use Rattle.std.proofs.Common.{refl, sym, subst, ◌∙◌};
 ghost use Rattle.gate_base.specs.Line.{OnlyWrites};
+ghost use Rattle.http_wire.specs.declared.judge.TheConstants.{MOST_BODY_LIMIT};
 ghost use Rattle.http_service.specs.declared.ended.Ended.TheVariants.{Closed, Refused};
 ghost use Rattle.http_service.specs.Answering.{Sends};
 ghost use Rattle.http_service.specs.Trace.{is_failed_step};
@@ -13,7 +14,7 @@ use crate::lent_store::LentStore;
 use crate::setup::Setup;
 use gate_base::{Bytes, Line, NoCount};
 use http_service::{Ended, Received, Service, send_piece};
-use http_wire::{Kind, Message, closes};
+use http_wire::{Kind, MOST_BODY_LIMIT, Message, closes};
 use std::alloc::Global;
 use swift_store::{Shelf, StoreFault, serve};
 
@@ -27,6 +28,8 @@ impl<'a, S: Shelf, N: Line<NoCount>> Service<NoCount, N> for LentStore<'a, S> {
     ghost state = { λ service. state_of (S.model service.shelf.now) };
 
     ghost number = { λ state. 0 };
+
+    ghost limit = { MOST_BODY_LIMIT };
 
     ghost memory = { refusal 500 };
 
@@ -51,6 +54,10 @@ impl<'a, S: Shelf, N: Line<NoCount>> Service<NoCount, N> for LentStore<'a, S> {
 
     fn counter(&self) -> &NoCount {
         &self.none
+    }
+
+    fn body_limit(&self) -> u64 {
+        MOST_BODY_LIMIT
     }
 
     fn out_of_memory(&self) -> &[u8] {

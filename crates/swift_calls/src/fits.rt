@@ -11,8 +11,8 @@ use gate_base::{Bytes, List, is_field};
 use slo_manifest::{MOST_SEGMENTS, Segment, is_segment};
 use text_forms::is_utf8;
 
-/// The greatest body that a call puts, in bytes: 16 MiB.
-pub const MOST_BODY: usize = 16_777_216;
+/// The greatest body that a call puts, in bytes: 1 GiB.
+pub const MOST_BODY: usize = 1_073_741_824;
 
 fn has_no_unfit_zero_byte(text: &[u8]) -> bool
     ensures { IsTrue result ↔ ¬ (Contains text.now 0) }
@@ -174,7 +174,7 @@ fn gets_fit(container: &Bytes, name: &Bytes, range: Option<(u64, u64)>) -> bool
 /// Whether a call is within the limits: names of containers have 1 to 256 bytes, of objects 1 to 1024, prefixes and
 /// markers at most 1028, all of UTF-8 without byte 0; a content type has 1 to 512 bytes, and each of at most 11
 /// pieces of metadata 1 to 256, of visible ASCII and spaces without a space at either end; a body has at most
-/// 16,777,216 bytes; a limit is 1 to 1000; a range ends at or after its first byte, below 2^63; a creation time is
+/// 1,073,741,824 bytes; a limit is 1 to 1000; a range ends at or after its first byte, below 2^63; a creation time is
 /// before the year 10000; and each of at most 1000 segments has names of these lengths, an ETag of 32 lower-case
 /// hexadecimal digits and a size from 1 to below 2^63, and no `/` in its container.
 pub fn is_fit(request: &SwiftRequest) -> bool

@@ -17,9 +17,13 @@ const FRONT: usize = 16_384;
 
 const PIECE: usize = 65_536;
 
-/// The bytes of a head and a body together, at most: 256 MiB and the longest head. The longest answers are the bytes of an object,
+/// The bytes of a head and a body together, at most: 1 GiB and the longest head. The longest answers are the bytes of an object,
 /// which are held whole; one that was completed from parts may have more, and is then read by ranges alone.
-const MOST: u64 = 268_500_992;
+const MOST: u64 = 1_073_807_360;
+
+/// The bytes of a body that room is made for before they come, at most: 16 MiB and one byte more. Behind these the room grows with
+/// what comes.
+const AHEAD: usize = 16_777_217;
 
 /// A whole answer, its head and its body, and whether the connection may serve another exchange.
 #[derive(Drop)]
@@ -127,8 +131,7 @@ fn size_to_receive(head: usize, body: u64, stays: bool) -> io::Result<Size> {
     }
 }
 
-/// The body of the answer. What came of it behind the head is moved out of `front`. There is room for one byte more, which
-/// is asked for.
+/// The body of the answer. What came of it behind the head is moved out of `front`. One byte more is asked for.
 fn receive_body<S: Read>(
     alloc: Global,
     stream: &mut S,
@@ -137,7 +140,7 @@ fn receive_body<S: Read>(
 ) -> io::Result<Vec<u8>> {
     let mut body = Vec::new(alloc);
     if size.body > 0 {
-        body.reserve(size.body.saturating_add(1))?;
+        body.reserve(size.body.saturating_add(1).min(AHEAD))?;
     }
     body.extend_from_slice(&front[size.head.min(front.len())..])?;
     front.truncate(size.head);

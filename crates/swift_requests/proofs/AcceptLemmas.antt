@@ -97,7 +97,7 @@ own_good (DeleteObject container name) fit = refl
 place_visible : (text : List ℕ) → is_place_text text ≡ true → list_all is_visible text ≡ true
 place_visible text is = (and_parts _ (list_all is_visible text) is).1
 
-pub body_small : (call : SwiftRequest) → Fit call → length (body_of call) ≤ 16777216
+pub body_small : (call : SwiftRequest) → Fit call → length (body_of call) ≤ 1073741824
 body_small (ListContainers marker limit) fit = omega arith
 body_small (HeadContainer container) fit = omega arith
 body_small (PutContainer container readers created) fit = omega arith
@@ -105,7 +105,7 @@ body_small (PostContainer container readers) fit = omega arith
 body_small (DeleteContainer container) fit = omega arith
 body_small (ListNames container prefix marker limit) fit = omega arith
 body_small (PutObject container name content_type meta body) fit = fit.4
-body_small (PutManifest container name content_type meta segments) fit = text_size segments fit.4 fit.5
+body_small (PutManifest container name content_type meta segments) fit = omega (arith, text_size segments fit.4 fit.5)
 body_small (HeadObject container name) fit = omega arith
 body_small (GetObject container name range) fit = omega arith
 body_small (GetManifest container name) fit = omega arith

@@ -13,6 +13,7 @@ use Rattle.http1.proofs.HeadRoundTrip.{request_reads_back, fields_read_back}
 use Rattle.httparse.specs.Grammar.{Field, RequestHead}
 use Rattle.httparse.specs.Spans.{name_and_value}
 use Rattle.http_wire.specs.declared.message.Message.{Message}
+use Rattle.http_wire.specs.declared.judge.TheConstants.{MOST_BODY_LIMIT}
 use Rattle.http_wire.specs.FirstMessage.{Spells, header_of, message_of, judge, length_judged, value_judged, is_length, is_put}
 use Rattle.http_wire.specs.Headers.{has_name, has_header, values_of}
 use Rattle.slo_manifest.specs.Laws.{TextReadsBack}
@@ -55,22 +56,22 @@ no_header name (h ∷ fields) none = by_test (has_name name (header_pair h)) (sy
 
 -- ---- the length of the body
 
-value_taken : (n : ℕ) → n ≤ 16777216 → value_judged (decimal n) ≡ Ok n
+value_taken : (n : ℕ) → n ≤ 1073741824 → value_judged MOST_BODY_LIMIT (decimal n) ≡ Ok n
 value_taken n small =
     let fits : n < 2 ^ 64 = omega (arith, small) in
     let value : digits_value 10 (decimal n) ≡ n = decimal_value n fits in
-    let test : nat_lt 16777216 (digits_value 10 (decimal n)) ≡ false = grind (arith, nat_tests, value, small) in
+    let test : nat_lt 1073741824 (digits_value 10 (decimal n)) ≡ false = grind (arith, nat_tests, value, small) in
     cond-true (is_length (decimal n)) _ _ (decimal_length n (omega (arith, small)))
-    ∙ cond-false (nat_lt 16777216 (digits_value 10 (decimal n))) _ _ test ∙ ap (λ k. Ok k) value
+    ∙ cond-false (nat_lt 1073741824 (digits_value 10 (decimal n))) _ _ test ∙ ap (λ k. Ok k) value
 
 judged : (message : Message) (fields : List Header) (n : ℕ) → message.headers ≡ map header_pair fields → length fields ≤ 100
-    → given (codes "transfer-encoding") fields ≡ [] → given (codes "content-length") fields ≡ decimal n ∷ [] → n ≤ 16777216 → judge message ≡ Ok n
+    → given (codes "transfer-encoding") fields ≡ [] → given (codes "content-length") fields ≡ decimal n ∷ [] → n ≤ 1073741824 → judge MOST_BODY_LIMIT message ≡ Ok n
 judged message fields n headers count coding sizes small =
     let test : nat_lt 100 (length (map header_pair fields)) ≡ false = grind (arith, nat_tests, count_pairs fields, count) in
     cond-false (nat_lt 100 (length message.headers)) _ _ (ap (λ hs. nat_lt 100 (length hs)) headers ∙ test)
     ∙ cond-false (has_header (codes "transfer-encoding") message.headers) _ _
     (ap (has_header (codes "transfer-encoding")) headers ∙ no_header (codes "transfer-encoding") fields coding)
-    ∙ ap (length_judged (is_put message.method)) (ap (values_of (codes "content-length")) headers ∙ sizes)
+    ∙ ap (length_judged MOST_BODY_LIMIT (is_put message.method)) (ap (values_of (codes "content-length")) headers ∙ sizes)
     ∙ value_taken n small
 
 -- ---- the whole request
@@ -81,7 +82,7 @@ head_of place call = request_head (method_text call) (target_text place call) 1 
 abbrev head_text : Place → SwiftRequest → List ℕ
 head_text place call = request_text (method_text call) (target_text place call) 1 (call_fields place call)
 
-pub spelled : (place : Place) (call : SwiftRequest) → IsPlace place → Fit call → Spells (call_text place call) (call_message place call)
+pub spelled : (place : Place) (call : SwiftRequest) → IsPlace place → Fit call → Spells MOST_BODY_LIMIT (call_text place call) (call_message place call)
 spelled place call is fit =
     let good = fields_good place call is fit in
     let headers = headers_are (call_fields place call) good in
@@ -116,11 +117,11 @@ same_some a b same = cc
 pub one_call : (place : Place) (message : Message) (a b : SwiftRequest) → SpellsCall place a message → SpellsCall place b message → a ≡ b
 one_call place message a b first other = same_some a b (sym first.0 ∙ other.0)
 
-one_message : (bytes : List ℕ) (a b : Message) → Spells bytes a → Spells bytes b → a ≡ b
+one_message : (bytes : List ℕ) (a b : Message) → Spells MOST_BODY_LIMIT bytes a → Spells MOST_BODY_LIMIT bytes b → a ≡ b
 one_message bytes a b first other =
     let all : take (length bytes) bytes ≡ bytes = take_all (length bytes) bytes (omega arith) in
-    let S : Message → List ℕ → Type 0 = λ m t. Spells t m in
-    (one_spelling bytes a b (length bytes) (length bytes) (omega arith) (omega arith) (subst (S a) (sym all) first) (subst (S b) (sym all) other)).1
+    let S : Message → List ℕ → Type 0 = λ m t. Spells MOST_BODY_LIMIT t m in
+    (one_spelling MOST_BODY_LIMIT bytes a b (length bytes) (length bytes) (omega arith) (omega arith) (subst (S a) (sym all) first) (subst (S b) (sym all) other)).1
 
 pub one_request : (place : Place) (bytes : List ℕ) (a b : SwiftRequest) → SpellsRequest place a bytes → SpellsRequest place b bytes → a ≡ b
 one_request place bytes a b (m, spelt, token, call) (n, spelled, ticket, other) =

@@ -5,6 +5,7 @@ use Rattle.std.specs.List.{starts_with, before_first, after_first}
 use Rattle.std.specs.Prelude.{Option, None, Some, option_map, option_and_then}
 use Rattle.gate_base.specs.declared.page.Pair.{Pair}
 use Rattle.http_wire.specs.declared.message.Message.{Message}
+use Rattle.http_wire.specs.declared.judge.TheConstants.{MOST_BODY_LIMIT}
 use Rattle.http_wire.specs.FirstMessage.{Spells}
 use Rattle.s3_names.specs.Target.{query_text}
 use Rattle.slo_manifest.specs.declared.Segment.{Segment}
@@ -223,7 +224,7 @@ SpellsCall place call message = (call_of place message ≡ Some call) × Fit cal
 
 -- the bytes are one whole request that spells the call, and it has the place's token
 abbrev pub SpellsRequest : Place → SwiftRequest → List ℕ → Type 0
-SpellsRequest place call bytes = (message : Message) × Spells bytes message × HasToken place message × SpellsCall place call message
+SpellsRequest place call bytes = (message : Message) × Spells MOST_BODY_LIMIT bytes message × HasToken place message × SpellsCall place call message
 
 -- what reading a message answers: the call that it spells, or that it spells none
 abbrev pub ReadsCall : Place → Message → Result SwiftRequest WireFault → Type 0

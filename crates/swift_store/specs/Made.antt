@@ -20,7 +20,7 @@ pub record IsMadeList (segments : List Segment) : Type 0 where
   pub within : length segments ≤ most_segments
   pub places : All IsSegmentPlace segments
 
--- bytes of its own, at most 16 MiB, or such segments
+-- bytes of its own, at most 1 GiB, or such segments
 pub record IsMadeContent (content : Content) : Type 0 where
   pub own : (bytes : List ℕ) → content ≡ Plain bytes → length bytes ≤ most_body
   pub list : (segments : List Segment) → content ≡ Segments segments → IsMadeList segments

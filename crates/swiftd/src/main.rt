@@ -35,6 +35,9 @@ const MOST_AHEAD: u64 = 65_536;
 
 const MEBIBYTE: u64 = 1_048_576;
 
+/// The most bytes of a body that is read ahead: the most that a store takes.
+const LARGEST_BODY: usize = 1_073_741_824;
+
 const LISTEN: &str = "SWIFTD_LISTEN";
 
 /// The option that names the file, as it stands in the line that says why the program can't begin.
@@ -157,6 +160,7 @@ fn tcp_line(
         limit,
         None,
         ahead,
+        LARGEST_BODY,
     ) {
         Ok(line) => Ok(line),
         Err(error) if error.kind() == ErrorKind::OutOfMemory => Err(SetupFault::Memory),

@@ -1,4 +1,5 @@
 pub mod Apart
+pub mod Bounded
 pub mod Carried
 pub mod Completed
 pub mod GatewayPut

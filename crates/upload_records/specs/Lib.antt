@@ -1,3 +1,4 @@
+pub mod Bounded
 pub mod Consistent
 pub mod Laws
 pub mod Layout

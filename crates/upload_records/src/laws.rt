@@ -1,4 +1,5 @@
 //! Laws of the definitions, each the contract of a function that does nothing.
+ghost use Rattle.upload_records.specs.Bounded.{WrittenByLess, WrittenByMost};
 ghost use Rattle.upload_records.specs.Laws.{AclReplaced, BucketBare, BucketGone, BucketMade, BucketThere, EmptyConsistent, ObjectFound, ObjectGone, ObjectPut, ReadsStutter};
 
 use swift_calls::law_reads_leave;
@@ -59,3 +60,10 @@ pub fn law_reads_stutter()
 {
     law_reads_leave();
 }
+
+/// An account that was written where bodies have fewer bytes at most is consistent, and the same completion is sealed on it. By the
+/// greatest bound it is just what is consistent.
+pub fn law_smaller_bodies()
+    ensures less { WrittenByLess }
+    ensures most { WrittenByMost }
+{}

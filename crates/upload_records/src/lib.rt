@@ -8,6 +8,7 @@ mod upload_laws;
 pub use laws::{
     law_acl_replaced, law_bucket_bare, law_bucket_gone, law_bucket_made, law_bucket_there,
     law_empty_consistent, law_object_found, law_object_gone, law_object_put, law_reads_stutter,
+    law_smaller_bodies,
 };
 pub use layout::{
     acl_of_container_readers, container_readers_of_acl, gateway_container, sealed_name,

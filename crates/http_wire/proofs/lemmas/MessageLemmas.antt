@@ -30,21 +30,21 @@ headers_of bytes headers count fields are =
 
 -- ---- the length that is judged
 
-judged_by : (put : Bool) (values : List (List ℕ)) → 1 < length values → length_judged put values ≡ Err BadLength
-judged_by put [] many = absurd (omega (arith, many))
-judged_by put (value ∷ []) many = absurd (omega (arith, many))
-judged_by put (value ∷ other ∷ values) many = refl
+judged_by : (limit : ℕ) (put : Bool) (values : List (List ℕ)) → 1 < length values → length_judged limit put values ≡ Err BadLength
+judged_by limit put [] many = absurd (omega (arith, many))
+judged_by limit put (value ∷ []) many = absurd (omega (arith, many))
+judged_by limit put (value ∷ other ∷ values) many = refl
 
 -- more than one length
-pub judged_many : (put : Bool) (name : List ℕ) (headers : List Pair) → 1 < count_by (has_name name) headers
-    → Err BadLength ≡ length_judged put (values_of name headers)
-judged_many put name headers many =
-    sym (judged_by put (values_of name headers) (omega (arith, many, count_values name headers)))
+pub judged_many : (limit : ℕ) (put : Bool) (name : List ℕ) (headers : List Pair) → 1 < count_by (has_name name) headers
+    → Err BadLength ≡ length_judged limit put (values_of name headers)
+judged_many limit put name headers many =
+    sym (judged_by limit put (values_of name headers) (omega (arith, many, count_values name headers)))
 
 -- one
-pub judged_one : (put : Bool) (name : List ℕ) (headers : List Pair) → count_by (has_name name) headers ≡ 1
-    → value_judged (first_value name headers) ≡ length_judged put (values_of name headers)
-judged_one put name headers one = sym (ap (length_judged put) (one_value name headers one))
+pub judged_one : (limit : ℕ) (put : Bool) (name : List ℕ) (headers : List Pair) → count_by (has_name name) headers ≡ 1
+    → value_judged limit (first_value name headers) ≡ length_judged limit put (values_of name headers)
+judged_one limit put name headers one = sym (ap (length_judged limit put) (one_value name headers one))
 
 abbrev pub refused_length : Result ℕ Kind
 refused_length = Err NoLength
@@ -52,16 +52,16 @@ refused_length = Err NoLength
 abbrev pub no_length : Result ℕ Kind
 no_length = Ok 0
 
-judged_none : (put : Bool) (name : List ℕ) (headers : List Pair) → count_by (has_name name) headers ≡ 0
-    → length_judged put (values_of name headers) ≡ (if put then refused_length else no_length)
-judged_none put name headers none = ap (length_judged put) (none_given name headers none)
+judged_none : (limit : ℕ) (put : Bool) (name : List ℕ) (headers : List Pair) → count_by (has_name name) headers ≡ 0
+    → length_judged limit put (values_of name headers) ≡ (if put then refused_length else no_length)
+judged_none limit put name headers none = ap (length_judged limit put) (none_given name headers none)
 
 -- none, where one is due
-pub judged_wanting : (put : Bool) (name : List ℕ) (headers : List Pair) → count_by (has_name name) headers ≡ 0 → put ≡ true
-    → Err NoLength ≡ length_judged put (values_of name headers)
-judged_wanting put name headers none is = sym (judged_none put name headers none ∙ cond-true put refused_length no_length is)
+pub judged_wanting : (limit : ℕ) (put : Bool) (name : List ℕ) (headers : List Pair) → count_by (has_name name) headers ≡ 0 → put ≡ true
+    → Err NoLength ≡ length_judged limit put (values_of name headers)
+judged_wanting limit put name headers none is = sym (judged_none limit put name headers none ∙ cond-true put refused_length no_length is)
 
 -- none, where there may be none
-pub judged_empty : (put : Bool) (name : List ℕ) (headers : List Pair) → count_by (has_name name) headers ≡ 0 → put ≡ false
-    → Ok 0 ≡ length_judged put (values_of name headers)
-judged_empty put name headers none is = sym (judged_none put name headers none ∙ cond-false put refused_length no_length is)
+pub judged_empty : (limit : ℕ) (put : Bool) (name : List ℕ) (headers : List Pair) → count_by (has_name name) headers ≡ 0 → put ≡ false
+    → Ok 0 ≡ length_judged limit put (values_of name headers)
+judged_empty limit put name headers none is = sym (judged_none limit put name headers none ∙ cond-false put refused_length no_length is)

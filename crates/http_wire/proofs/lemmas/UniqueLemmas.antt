@@ -35,12 +35,12 @@ behind bytes h n (Ok m) =
 behind bytes h n (Err kind) = refused kind (is_head h.method)
 
 -- either a head stands first, and then only one thing can, or it is one of the four others
-data Sort (bytes : List ℕ) (front : FirstMessage) : Type 0 where
-  headed : (h : RequestHead) (n : ℕ) → HasHead bytes h n → front ≡ behind bytes h n (judge (message_of h)) → Sort bytes front
-  empty : bytes ≡ [] → front ≡ nothing → Sort bytes front
-  dead : HasNoHead bytes → HasDeadPrefix bytes → front ≡ refused BadHead false → Sort bytes front
-  long : HasNoHead bytes → ¬ (HasDeadPrefix bytes) → 16384 ≤ length bytes → front ≡ refused LongHead false → Sort bytes front
-  cut : HasNoHead bytes → ¬ (HasDeadPrefix bytes) → 0 < length bytes → length bytes < 16384 → front ≡ cut_short → Sort bytes front
+data Sort (limit : ℕ) (bytes : List ℕ) (front : FirstMessage) : Type 0 where
+  headed : (h : RequestHead) (n : ℕ) → HasHead bytes h n → front ≡ behind bytes h n (judge limit (message_of h)) → Sort limit bytes front
+  empty : bytes ≡ [] → front ≡ nothing → Sort limit bytes front
+  dead : HasNoHead bytes → HasDeadPrefix bytes → front ≡ refused BadHead false → Sort limit bytes front
+  long : HasNoHead bytes → ¬ (HasDeadPrefix bytes) → 16384 ≤ length bytes → front ≡ refused LongHead false → Sort limit bytes front
+  cut : HasNoHead bytes → ¬ (HasDeadPrefix bytes) → 0 < length bytes → length bytes < 16384 → front ≡ cut_short → Sort limit bytes front
 
 le_true : (a b : ℕ) → a ≤ b → nat_le a b ≡ true
 le_true a b low = grind (arith, nat_tests)
@@ -48,77 +48,77 @@ le_true a b low = grind (arith, nat_tests)
 le_false : (a b : ℕ) → b < a → nat_le a b ≡ false
 le_false a b high = grind (arith, nat_tests)
 
-asked : (bytes : List ℕ) (message : Message) (size : ℕ) → IsAsked bytes message size → Sort bytes (asks message size)
-asked bytes message size (h, n, m, has, is, sized, within, spelt) =
+asked : (limit : ℕ) (bytes : List ℕ) (message : Message) (size : ℕ) → IsAsked limit bytes message size → Sort limit bytes (asks message size)
+asked limit bytes message size (h, n, m, has, is, sized, within, spelt) =
     headed h n has
     (ap₂ asks spelt sized
     ∙ sym (cond-true (nat_le (n + m) (length bytes)) _ (refused ShortBody (is_head h.method)) (le_true (n + m) (length bytes) (omega (arith, sized, within))))
     ∙ sym (ap (behind bytes h n) is))
 
-judged : (bytes : List ℕ) (kind : Kind) (head : Bool) → IsJudged bytes kind head → Sort bytes (refused kind head)
-judged bytes kind head (h, n, has, is, method) = headed h n has (ap (refused kind) method ∙ sym (ap (behind bytes h n) is))
+judged : (limit : ℕ) (bytes : List ℕ) (kind : Kind) (head : Bool) → IsJudged limit bytes kind head → Sort limit bytes (refused kind head)
+judged limit bytes kind head (h, n, has, is, method) = headed h n has (ap (refused kind) method ∙ sym (ap (behind bytes h n) is))
 
-shorter : (bytes : List ℕ) (head : Bool) → EndsInBody bytes head → Sort bytes (refused ShortBody head)
-shorter bytes head (h, n, m, has, is, short, method) =
+shorter : (limit : ℕ) (bytes : List ℕ) (head : Bool) → EndsInBody limit bytes head → Sort limit bytes (refused ShortBody head)
+shorter limit bytes head (h, n, m, has, is, short, method) =
     headed h n has
     (ap (refused ShortBody) method
     ∙ sym (cond-false (nat_le (n + m) (length bytes)) (asks (message_with h (take m (drop n bytes))) (n + m)) _ (le_false (n + m) (length bytes) short))
     ∙ sym (ap (behind bytes h n) is))
 
-sort_refused : (bytes : List ℕ) (kind : Kind) (head : Bool) → IsRefused bytes kind head → Sort bytes (refused kind head)
-sort_refused bytes BadHead head (none, prefix, is) = dead none prefix (ap (refused BadHead) is)
-sort_refused bytes LongHead head (none, lives, far, is) = long none lives far (ap (refused LongHead) is)
-sort_refused bytes ManyHeaders head is = judged bytes ManyHeaders head is
-sort_refused bytes NoLength head is = judged bytes NoLength head is
-sort_refused bytes BadLength head is = judged bytes BadLength head is
-sort_refused bytes LongBody head is = judged bytes LongBody head is
-sort_refused bytes Transfer head is = judged bytes Transfer head is
-sort_refused bytes ShortBody head is = shorter bytes head is
+sort_refused : (limit : ℕ) (bytes : List ℕ) (kind : Kind) (head : Bool) → IsRefused limit bytes kind head → Sort limit bytes (refused kind head)
+sort_refused limit bytes BadHead head (none, prefix, is) = dead none prefix (ap (refused BadHead) is)
+sort_refused limit bytes LongHead head (none, lives, far, is) = long none lives far (ap (refused LongHead) is)
+sort_refused limit bytes ManyHeaders head is = judged limit bytes ManyHeaders head is
+sort_refused limit bytes NoLength head is = judged limit bytes NoLength head is
+sort_refused limit bytes BadLength head is = judged limit bytes BadLength head is
+sort_refused limit bytes LongBody head is = judged limit bytes LongBody head is
+sort_refused limit bytes Transfer head is = judged limit bytes Transfer head is
+sort_refused limit bytes ShortBody head is = shorter limit bytes head is
 
-sort : (bytes : List ℕ) (front : FirstMessage) → BeginsWith bytes front → Sort bytes front
-sort bytes (asks message size) is = asked bytes message size is
-sort bytes nothing is = empty is refl
-sort bytes cut_short (some, short, none, lives) = cut none lives some short refl
-sort bytes (refused kind head) is = sort_refused bytes kind head is
+sort : (limit : ℕ) (bytes : List ℕ) (front : FirstMessage) → BeginsWith limit bytes front → Sort limit bytes front
+sort limit bytes (asks message size) is = asked limit bytes message size is
+sort limit bytes nothing is = empty is refl
+sort limit bytes cut_short (some, short, none, lives) = cut none lives some short refl
+sort limit bytes (refused kind head) is = sort_refused limit bytes kind head is
 
-one : (bytes : List ℕ) (a b : FirstMessage) → Sort bytes a → Sort bytes b → a ≡ b
-one bytes a b (headed h n has is) (headed k m had was) =
-    is ∙ ap₂ (λ g l. behind bytes g l (judge (message_of g))) (same_head bytes h k n m has had) (same_size bytes h k n m has had) ∙ sym was
-one bytes a b (headed h n has is) (empty none was) = absurd (not_empty bytes h n has none)
-one bytes a b (headed h n has is) (dead none prefix was) = absurd (none h n has)
-one bytes a b (headed h n has is) (long none lives far was) = absurd (none h n has)
-one bytes a b (headed h n has is) (cut none lives some short was) = absurd (none h n has)
-one bytes a b (empty none is) (headed k m had was) = absurd (not_empty bytes k m had none)
-one bytes a b (empty none is) (empty too was) = is ∙ sym was
-one bytes a b (empty none is) (dead without prefix was) = absurd (nothing_lives bytes none prefix)
-one bytes a b (empty none is) (long without lives far was) = absurd (omega (arith, far, ap length none))
-one bytes a b (empty none is) (cut without lives some short was) = absurd (omega (arith, some, ap length none))
-one bytes a b (dead none prefix is) (headed k m had was) = absurd (none k m had)
-one bytes a b (dead none prefix is) (empty without was) = absurd (nothing_lives bytes without prefix)
-one bytes a b (dead none prefix is) (dead too other was) = is ∙ sym was
-one bytes a b (dead none prefix is) (long too lives far was) = absurd (lives prefix)
-one bytes a b (dead none prefix is) (cut too lives some short was) = absurd (lives prefix)
-one bytes a b (long none lives far is) (headed k m had was) = absurd (none k m had)
-one bytes a b (long none lives far is) (empty without was) = absurd (omega (arith, far, ap length without))
-one bytes a b (long none lives far is) (dead too prefix was) = absurd (lives prefix)
-one bytes a b (long none lives far is) (long too live away was) = is ∙ sym was
-one bytes a b (long none lives far is) (cut too live some short was) = absurd (omega (arith, far, short))
-one bytes a b (cut none lives some short is) (headed k m had was) = absurd (none k m had)
-one bytes a b (cut none lives some short is) (empty without was) = absurd (omega (arith, some, ap length without))
-one bytes a b (cut none lives some short is) (dead too prefix was) = absurd (lives prefix)
-one bytes a b (cut none lives some short is) (long too live far was) = absurd (omega (arith, far, short))
-one bytes a b (cut none lives some short is) (cut too live any near was) = is ∙ sym was
+one : (limit : ℕ) (bytes : List ℕ) (a b : FirstMessage) → Sort limit bytes a → Sort limit bytes b → a ≡ b
+one limit bytes a b (headed h n has is) (headed k m had was) =
+    is ∙ ap₂ (λ g l. behind bytes g l (judge limit (message_of g))) (same_head bytes h k n m has had) (same_size bytes h k n m has had) ∙ sym was
+one limit bytes a b (headed h n has is) (empty none was) = absurd (not_empty bytes h n has none)
+one limit bytes a b (headed h n has is) (dead none prefix was) = absurd (none h n has)
+one limit bytes a b (headed h n has is) (long none lives far was) = absurd (none h n has)
+one limit bytes a b (headed h n has is) (cut none lives some short was) = absurd (none h n has)
+one limit bytes a b (empty none is) (headed k m had was) = absurd (not_empty bytes k m had none)
+one limit bytes a b (empty none is) (empty too was) = is ∙ sym was
+one limit bytes a b (empty none is) (dead without prefix was) = absurd (nothing_lives bytes none prefix)
+one limit bytes a b (empty none is) (long without lives far was) = absurd (omega (arith, far, ap length none))
+one limit bytes a b (empty none is) (cut without lives some short was) = absurd (omega (arith, some, ap length none))
+one limit bytes a b (dead none prefix is) (headed k m had was) = absurd (none k m had)
+one limit bytes a b (dead none prefix is) (empty without was) = absurd (nothing_lives bytes without prefix)
+one limit bytes a b (dead none prefix is) (dead too other was) = is ∙ sym was
+one limit bytes a b (dead none prefix is) (long too lives far was) = absurd (lives prefix)
+one limit bytes a b (dead none prefix is) (cut too lives some short was) = absurd (lives prefix)
+one limit bytes a b (long none lives far is) (headed k m had was) = absurd (none k m had)
+one limit bytes a b (long none lives far is) (empty without was) = absurd (omega (arith, far, ap length without))
+one limit bytes a b (long none lives far is) (dead too prefix was) = absurd (lives prefix)
+one limit bytes a b (long none lives far is) (long too live away was) = is ∙ sym was
+one limit bytes a b (long none lives far is) (cut too live some short was) = absurd (omega (arith, far, short))
+one limit bytes a b (cut none lives some short is) (headed k m had was) = absurd (none k m had)
+one limit bytes a b (cut none lives some short is) (empty without was) = absurd (omega (arith, some, ap length without))
+one limit bytes a b (cut none lives some short is) (dead too prefix was) = absurd (lives prefix)
+one limit bytes a b (cut none lives some short is) (long too live far was) = absurd (omega (arith, far, short))
+one limit bytes a b (cut none lives some short is) (cut too live any near was) = is ∙ sym was
 
-pub one_front : (bytes : List ℕ) (a b : FirstMessage) → BeginsWith bytes a → BeginsWith bytes b → a ≡ b
-one_front bytes a b is was = one bytes a b (sort bytes a is) (sort bytes b was)
+pub one_front : (limit : ℕ) (bytes : List ℕ) (a b : FirstMessage) → BeginsWith limit bytes a → BeginsWith limit bytes b → a ≡ b
+one_front limit bytes a b is was = one limit bytes a b (sort limit bytes a is) (sort limit bytes b was)
 
 -- ---- how long a request is
 
-pub request_some : (bytes : List ℕ) (message : Message) (size : ℕ) → BeginsWith bytes (asks message size) → 0 < size
-request_some bytes message size (h, n, m, has, is, sized, within, spelt) = omega (arith, head_has_byte h, has.1, sized)
+pub request_some : (limit : ℕ) (bytes : List ℕ) (message : Message) (size : ℕ) → BeginsWith limit bytes (asks message size) → 0 < size
+request_some limit bytes message size (h, n, m, has, is, sized, within, spelt) = omega (arith, head_has_byte h, has.1, sized)
 
-pub request_within : (bytes : List ℕ) (message : Message) (size : ℕ) → BeginsWith bytes (asks message size) → size ≤ length bytes
-request_within bytes message size (h, n, m, has, is, sized, within, spelt) = within
+pub request_within : (limit : ℕ) (bytes : List ℕ) (message : Message) (size : ℕ) → BeginsWith limit bytes (asks message size) → size ≤ length bytes
+request_within limit bytes message size (h, n, m, has, is, sized, within, spelt) = within
 
 -- ---- what spells a message
 
@@ -133,9 +133,9 @@ longer_head bytes size h n has within =
     (subst P (λ i. (all i, rest i)) reads, has.1, has.2)
 
 -- what spells a message stands first
-pub spelt_front : (bytes : List ℕ) (message : Message) (size : ℕ) → size ≤ length bytes → Spells (take size bytes) message
-    → BeginsWith bytes (asks message size)
-spelt_front bytes message size within (h, n, m, has, is, sized, spelt) =
+pub spelt_front : (limit : ℕ) (bytes : List ℕ) (message : Message) (size : ℕ) → size ≤ length bytes → Spells limit (take size bytes) message
+    → BeginsWith limit bytes (asks message size)
+spelt_front limit bytes message size within (h, n, m, has, is, sized, spelt) =
     let exact : size ≡ n + m = omega (arith, within, sized, length-take size bytes) in (
       h,
       n,
@@ -148,8 +148,8 @@ spelt_front bytes message size within (h, n, m, has, is, sized, spelt) =
     )
 
 -- and what stands first is spelt by its bytes
-pub front_spells : (bytes : List ℕ) (message : Message) (size : ℕ) → BeginsWith bytes (asks message size) → Spells (take size bytes) message
-front_spells bytes message size (h, n, m, has, is, sized, within, spelt) =
+pub front_spells : (limit : ℕ) (bytes : List ℕ) (message : Message) (size : ℕ) → BeginsWith limit bytes (asks message size) → Spells limit (take size bytes) message
+front_spells limit bytes message size (h, n, m, has, is, sized, within, spelt) =
     let reads = has.0 in (
       h,
       n,
@@ -166,9 +166,9 @@ front_spells bytes message size (h, n, m, has, is, sized, within, spelt) =
         ap₂ take (sized ∙ ap (λ k. k + m) far) e ∙ take-append-add (print_request h) (drop n bytes) m
         ∙ ap (λ v. print_request h ++ v) (sym (ap (λ k. drop n (take k bytes)) sized ∙ drop-take n m bytes))
 
-pub one_spelling : (bytes : List ℕ) (a b : Message) (n m : ℕ) → n ≤ length bytes → m ≤ length bytes → Spells (take n bytes) a → Spells (take m bytes) b
+pub one_spelling : (limit : ℕ) (bytes : List ℕ) (a b : Message) (n m : ℕ) → n ≤ length bytes → m ≤ length bytes → Spells limit (take n bytes) a → Spells limit (take m bytes) b
     → (n ≡ m) × (a ≡ b)
-one_spelling bytes a b n m low high first other =
+one_spelling limit bytes a b n m low high first other =
     let same : asks a n ≡ asks b m =
-    one_front bytes (asks a n) (asks b m) (spelt_front bytes a n low first) (spelt_front bytes b m high other) in
+    one_front limit bytes (asks a n) (asks b m) (spelt_front limit bytes a n low first) (spelt_front limit bytes b m high other) in
     (cc, cc)

@@ -23,6 +23,7 @@ use Rattle.s3_machine.specs.declared.code.Code.TheVariants.{
   NoSuchKey,
   NoSuchUpload,
   NotImplemented,
+  PreconditionFailed as fails_precondition,
   ServiceUnavailable,
 }
 use Rattle.s3_machine.specs.declared.items.Asked.{Asked}
@@ -65,9 +66,9 @@ use Rattle.s3_machine.specs.declared.reading.Judged.{Judged}
 use Rattle.s3_machine.specs.declared.reading.Judged.TheVariants.{PreconditionFailed, NotModified, InvalidRange, Bytes}
 use Rattle.s3_machine.specs.declared.reading.Range.{Range}
 use Rattle.s3_machine.specs.declared.reading.Span.{Span}
-use Rattle.s3_machine.specs.Copies.{copied, is_onto_itself, has_last, copied_span}
+use Rattle.s3_machine.specs.Copies.{copied, is_onto_itself, has_last, copied_span, may_be_copied}
 use Rattle.s3_machine.specs.ETag.{body_etag}
-use Rattle.s3_machine.specs.Limits.{most_body_bytes}
+use Rattle.s3_machine.specs.Limits.{body_limit}
 use Rattle.s3_machine.specs.Reading.{judged, taken}
 use Rattle.s3_machine.specs.State.{Object, Part, Upload, Bucket, State}
 use Rattle.s3_machine.specs.Finish.{finished}
@@ -138,6 +139,7 @@ use Rattle.s3_machine.specs.Step.{
   completes_by,
   completes_open,
   completes_chosen,
+  copied_under,
   in_source,
   copies_object,
   copies,
@@ -418,95 +420,116 @@ pub record HasSource (old : State) (from_bucket from_key : List ℕ) : Type 0 wh
   pub in_bucket : get old from_bucket ≡ Some b
   pub in_objects : get b.objects from_key ≡ Some o
 
-module _ (old : State) (from_bucket from_key : List ℕ) (f : Object → Outcome) (b : Bucket) where
-  pub source_without_bucket : get old from_bucket ≡ None → in_source old from_bucket from_key f b ≡ refuses NoSuchBucket old
-  source_without_bucket none = in_missing old from_bucket none (λ from. in_object_by (get from.objects from_key) old f)
+module _ (old : State) (from_bucket from_key : List ℕ) (conditions : Conditions) (f : Object → Outcome) (b : Bucket) where
+  pub source_without_bucket : get old from_bucket ≡ None → in_source old from_bucket from_key conditions f b ≡ refuses NoSuchBucket old
+  source_without_bucket none = in_missing old from_bucket none (λ from. in_object_by (get from.objects from_key) old (copied_under conditions old f))
 
-  pub source_without_key : (from : Bucket) → get old from_bucket ≡ Some from → get from.objects from_key ≡ None → in_source old from_bucket from_key f b ≡ refuses NoSuchKey old
-  source_without_key from found none = in_found old from_bucket from found (λ from. in_object_by (get from.objects from_key) old f) ∙ ap (λ v. in_object_by v old f) none
+  pub source_without_key : (from : Bucket) → get old from_bucket ≡ Some from → get from.objects from_key ≡ None → in_source old from_bucket from_key conditions f b ≡ refuses NoSuchKey old
+  source_without_key from found none =
+      in_found old from_bucket from found (λ from. in_object_by (get from.objects from_key) old (copied_under conditions old f)) ∙ ap (λ v. in_object_by v old (copied_under conditions old f)) none
 
-  pub source_there : (has : HasSource old from_bucket from_key) → in_source old from_bucket from_key f b ≡ f has.o
-  source_there has = in_found old from_bucket has.b has.in_bucket (λ from. in_object_by (get from.objects from_key) old f) ∙ ap (λ v. in_object_by v old f) has.in_objects
+  source_found : (has : HasSource old from_bucket from_key) → in_source old from_bucket from_key conditions f b ≡ copied_under conditions old f has.o
+  source_found has =
+      in_found old from_bucket has.b has.in_bucket (λ from. in_object_by (get from.objects from_key) old (copied_under conditions old f))
+      ∙ ap (λ v. in_object_by v old (copied_under conditions old f)) has.in_objects
 
-module _ (settings : Settings) (old : State) (bucket key : List ℕ) (acl : Option Acl) (from_bucket from_key : List ℕ) (replaced : Option Replaced) (label : Label) where
+  -- the source doesn't meet the conditions
+  pub source_held : (has : HasSource old from_bucket from_key) → may_be_copied conditions (head_of has.o) ≡ false → in_source old from_bucket from_key conditions f b ≡ refuses fails_precondition old
+  source_held has e = source_found has ∙ unless_true _ _ _ _ (ap not e)
+
+  -- it meets them
+  pub source_there : (has : HasSource old from_bucket from_key) → may_be_copied conditions (head_of has.o) ≡ true → in_source old from_bucket from_key conditions f b ≡ f has.o
+  source_there has e = source_found has ∙ unless_false _ _ _ _ (ap not e)
+
+module _ (settings : Settings) (old : State) (bucket key : List ℕ) (acl : Option Acl) (from_bucket from_key : List ℕ) (replaced : Option Replaced) (conditions : Conditions) (label : Label) where
   abbrev copying : Op
-  copying = CopyObject bucket key acl from_bucket from_key replaced
+  copying = CopyObject bucket key acl from_bucket from_key replaced conditions
 
   abbrev object_copies : Object → Outcome
   object_copies = copies_object old bucket key from_bucket from_key replaced label.moment
 
   pub copy_without_bucket : get old bucket ≡ None → S3Step settings old copying label (Refused NoSuchBucket) old
-  copy_without_bucket none = steps _ _ 0 tt (in_missing old bucket none (copies old bucket key acl from_bucket from_key replaced label.moment))
+  copy_without_bucket none = steps _ _ 0 tt (in_missing old bucket none (copies old bucket key acl from_bucket from_key replaced conditions label.moment))
 
   module _ (b : Bucket) (found : get old bucket ≡ Some b) where
     pub copy_with_another_acl : is_other_acl acl b.acl ≡ true → S3Step settings old copying label (Refused NotImplemented) old
-    copy_with_another_acl e = steps _ _ 0 tt (in_found old bucket b found (copies old bucket key acl from_bucket from_key replaced label.moment) ∙ unless_true _ _ _ _ e)
+    copy_with_another_acl e = steps _ _ 0 tt (in_found old bucket b found (copies old bucket key acl from_bucket from_key replaced conditions label.moment) ∙ unless_true _ _ _ _ e)
 
     module _ (same : is_other_acl acl b.acl ≡ false) where
-      of_source : in_bucket_by (get old bucket) old (copies old bucket key acl from_bucket from_key replaced label.moment) ≡ in_source old from_bucket from_key object_copies b
-      of_source = in_found old bucket b found (copies old bucket key acl from_bucket from_key replaced label.moment) ∙ unless_false _ _ _ _ same
+      of_source : in_bucket_by (get old bucket) old (copies old bucket key acl from_bucket from_key replaced conditions label.moment) ≡ in_source old from_bucket from_key conditions object_copies b
+      of_source = in_found old bucket b found (copies old bucket key acl from_bucket from_key replaced conditions label.moment) ∙ unless_false _ _ _ _ same
 
       pub copy_without_source_bucket : get old from_bucket ≡ None → S3Step settings old copying label (Refused NoSuchBucket) old
-      copy_without_source_bucket none = steps _ _ 0 tt (of_source ∙ source_without_bucket old from_bucket from_key object_copies b none)
+      copy_without_source_bucket none = steps _ _ 0 tt (of_source ∙ source_without_bucket old from_bucket from_key conditions object_copies b none)
 
       pub copy_without_source : (from : Bucket) → get old from_bucket ≡ Some from → get from.objects from_key ≡ None → S3Step settings old copying label (Refused NoSuchKey) old
-      copy_without_source from there none = steps _ _ 0 tt (of_source ∙ source_without_key old from_bucket from_key object_copies b from there none)
+      copy_without_source from there none = steps _ _ 0 tt (of_source ∙ source_without_key old from_bucket from_key conditions object_copies b from there none)
 
-      pub copy_onto_itself : (has : HasSource old from_bucket from_key) → is_onto_itself bucket key from_bucket from_key replaced ≡ true
-          → S3Step settings old copying label (Refused InvalidRequest) old
-      copy_onto_itself has e = steps _ _ 0 tt (of_source ∙ source_there old from_bucket from_key object_copies b has ∙ unless_true _ _ _ _ e)
+      module _ (has : HasSource old from_bucket from_key) where
+        pub copy_held : may_be_copied conditions (head_of has.o) ≡ false → S3Step settings old copying label (Refused fails_precondition) old
+        copy_held held = steps _ _ 0 tt (of_source ∙ source_held old from_bucket from_key conditions object_copies b has held)
 
-      pub step_copied : (has : HasSource old from_bucket from_key) → is_onto_itself bucket key from_bucket from_key replaced ≡ false
-          → S3Step settings old copying label (Copied false has.o.etag label.moment) (adjust bucket (put_object key (copied replaced label.moment has.o)) old)
-      step_copied has e = steps _ _ 0 tt (of_source ∙ source_there old from_bucket from_key object_copies b has ∙ unless_false _ _ _ _ e)
+        pub copy_onto_itself : may_be_copied conditions (head_of has.o) ≡ true → is_onto_itself bucket key from_bucket from_key replaced ≡ true
+            → S3Step settings old copying label (Refused InvalidRequest) old
+        copy_onto_itself met e = steps _ _ 0 tt (of_source ∙ source_there old from_bucket from_key conditions object_copies b has met ∙ unless_true _ _ _ _ e)
+
+        pub step_copied : may_be_copied conditions (head_of has.o) ≡ true → is_onto_itself bucket key from_bucket from_key replaced ≡ false
+            → S3Step settings old copying label (Copied false has.o.etag label.moment) (adjust bucket (put_object key (copied replaced label.moment has.o)) old)
+        step_copied met e = steps _ _ 0 tt (of_source ∙ source_there old from_bucket from_key conditions object_copies b has met ∙ unless_false _ _ _ _ e)
 
 -- the bytes of a part that is copied of an object
 abbrev pub bytes_copied : Option (ℕ × ℕ) → Object → List ℕ
 bytes_copied range o = taken (copied_span range (length o.bytes)) o.bytes
 
-module _ (settings : Settings) (old : State) (bucket key id : List ℕ) (number : ℕ) (from_bucket from_key : List ℕ) (range : Option (ℕ × ℕ)) (label : Label) where
+module _ (settings : Settings) (old : State) (bucket key id : List ℕ) (number : ℕ) (from_bucket from_key : List ℕ) (range : Option (ℕ × ℕ)) (conditions : Conditions) (label : Label) where
   abbrev part_copying : Op
-  part_copying = CopyPart bucket key id number from_bucket from_key range
+  part_copying = CopyPart bucket key id number from_bucket from_key range conditions
 
   abbrev bytes_copies : Object → Outcome
-  bytes_copies = copies_bytes old bucket id number range label.moment
+  bytes_copies = copies_bytes settings old bucket id number range label.moment
+
+  abbrev part_copies : Bucket → Outcome
+  part_copies = copies_part settings old bucket key id number from_bucket from_key range conditions label.moment
 
   pub part_copy_without_bucket : get old bucket ≡ None → S3Step settings old part_copying label (Refused NoSuchBucket) old
-  part_copy_without_bucket none = steps _ _ 0 tt (in_missing old bucket none (copies_part old bucket key id number from_bucket from_key range label.moment))
+  part_copy_without_bucket none = steps _ _ 0 tt (in_missing old bucket none part_copies)
 
   module _ (b : Bucket) (found : get old bucket ≡ Some b) where
     abbrev of_upload : Upload → Outcome
-    of_upload u = in_source old from_bucket from_key bytes_copies b
+    of_upload u = in_source old from_bucket from_key conditions bytes_copies b
 
     pub part_copy_without_upload : get b.uploads id ≡ None → S3Step settings old part_copying label (Refused NoSuchUpload) old
-    part_copy_without_upload none = steps _ _ 0 tt (in_found old bucket b found (copies_part old bucket key id number from_bucket from_key range label.moment) ∙ upload_none old key id of_upload b none)
+    part_copy_without_upload none = steps _ _ 0 tt (in_found old bucket b found part_copies ∙ upload_none old key id of_upload b none)
 
     pub part_copy_of_other : (u : Upload) → get b.uploads id ≡ Some u → bytes_eq u.key key ≡ false → S3Step settings old part_copying label (Refused NoSuchUpload) old
-    part_copy_of_other u there other = steps _ _ 0 tt (in_found old bucket b found (copies_part old bucket key id number from_bucket from_key range label.moment) ∙ upload_other old key id of_upload b u there other)
+    part_copy_of_other u there other = steps _ _ 0 tt (in_found old bucket b found part_copies ∙ upload_other old key id of_upload b u there other)
 
   module _ (opened : HasUpload old bucket key id) where
-    in_open : in_bucket_by (get old bucket) old (copies_part old bucket key id number from_bucket from_key range label.moment) ≡ in_source old from_bucket from_key bytes_copies opened.b
-    in_open = in_found old bucket opened.b opened.in_bucket (copies_part old bucket key id number from_bucket from_key range label.moment)
-        ∙ upload_there old key id (λ u. in_source old from_bucket from_key bytes_copies opened.b) opened.b opened.u opened.in_uploads opened.of_key
+    in_open : in_bucket_by (get old bucket) old part_copies ≡ in_source old from_bucket from_key conditions bytes_copies opened.b
+    in_open = in_found old bucket opened.b opened.in_bucket part_copies
+        ∙ upload_there old key id (λ u. in_source old from_bucket from_key conditions bytes_copies opened.b) opened.b opened.u opened.in_uploads opened.of_key
 
     pub part_copy_without_source_bucket : get old from_bucket ≡ None → S3Step settings old part_copying label (Refused NoSuchBucket) old
-    part_copy_without_source_bucket none = steps _ _ 0 tt (in_open ∙ source_without_bucket old from_bucket from_key bytes_copies opened.b none)
+    part_copy_without_source_bucket none = steps _ _ 0 tt (in_open ∙ source_without_bucket old from_bucket from_key conditions bytes_copies opened.b none)
 
     pub part_copy_without_source : (from : Bucket) → get old from_bucket ≡ Some from → get from.objects from_key ≡ None → S3Step settings old part_copying label (Refused NoSuchKey) old
-    part_copy_without_source from there none = steps _ _ 0 tt (in_open ∙ source_without_key old from_bucket from_key bytes_copies opened.b from there none)
+    part_copy_without_source from there none = steps _ _ 0 tt (in_open ∙ source_without_key old from_bucket from_key conditions bytes_copies opened.b from there none)
 
-    module _ (has : HasSource old from_bucket from_key) where
-      of_object : in_bucket_by (get old bucket) old (copies_part old bucket key id number from_bucket from_key range label.moment) ≡ bytes_copies has.o
-      of_object = in_open ∙ source_there old from_bucket from_key bytes_copies opened.b has
+    pub part_copy_held : (has : HasSource old from_bucket from_key) → may_be_copied conditions (head_of has.o) ≡ false → S3Step settings old part_copying label (Refused fails_precondition) old
+    part_copy_held has held = steps _ _ 0 tt (in_open ∙ source_held old from_bucket from_key conditions bytes_copies opened.b has held)
+
+    module _ (has : HasSource old from_bucket from_key) (met : may_be_copied conditions (head_of has.o) ≡ true) where
+      of_object : in_bucket_by (get old bucket) old part_copies ≡ bytes_copies has.o
+      of_object = in_open ∙ source_there old from_bucket from_key conditions bytes_copies opened.b has met
 
       pub part_copy_past_end : has_last range (length has.o.bytes) ≡ false → S3Step settings old part_copying label (Refused bad_range) old
       part_copy_past_end e = steps _ _ 0 tt (of_object ∙ unless_true _ _ _ _ (ap not e))
 
-      pub part_copy_too_large : has_last range (length has.o.bytes) ≡ true → nat_lt most_body_bytes (copied_span range (length has.o.bytes)).length ≡ true
+      pub part_copy_too_large : has_last range (length has.o.bytes) ≡ true → nat_lt (body_limit settings) (copied_span range (length has.o.bytes)).length ≡ true
           → S3Step settings old part_copying label (Refused EntityTooLarge) old
       part_copy_too_large e large = steps _ _ 0 tt (of_object ∙ unless_false _ _ _ _ (ap not e) ∙ unless_true _ _ _ _ large)
 
-      pub step_part_copied : has_last range (length has.o.bytes) ≡ true → nat_lt most_body_bytes (copied_span range (length has.o.bytes)).length ≡ false
+      pub step_part_copied : has_last range (length has.o.bytes) ≡ true → nat_lt (body_limit settings) (copied_span range (length has.o.bytes)).length ≡ false
           → S3Step settings old part_copying label (Copied true (body_etag (bytes_copied range has.o)) label.moment)
           (adjust bucket (on_upload id (with_part number (new_part label.moment (bytes_copied range has.o)))) old)
       step_part_copied e small = steps _ _ 0 tt (of_object ∙ unless_false _ _ _ _ (ap not e) ∙ unless_false _ _ _ _ small)
@@ -526,11 +549,13 @@ module _ (P : Reply → Type 0) where
   in_object_has None old f refused own = refused
   in_object_has (Some o) old f refused own = own o refl
 
-  pub in_source_has : (old : State) (from_bucket from_key : List ℕ) (f : Object → Outcome) (b : Bucket) → P (Refused NoSuchBucket) → P (Refused NoSuchKey) → ((o : Object) → P (f o).reply)
-      → P (in_source old from_bucket from_key f b).reply
-  in_source_has old from_bucket from_key f b no_bucket no_key own =
-      in_bucket_has (get old from_bucket) old (λ from. in_object_by (get from.objects from_key) old f) no_bucket
-      (λ from there. in_object_has (get from.objects from_key) old f no_key (λ o is. own o))
+  pub in_source_has : (old : State) (from_bucket from_key : List ℕ) (conditions : Conditions) (f : Object → Outcome) (b : Bucket)
+      → P (Refused NoSuchBucket) → P (Refused NoSuchKey) → P (Refused fails_precondition) → ((o : Object) → P (f o).reply)
+      → P (in_source old from_bucket from_key conditions f b).reply
+  in_source_has old from_bucket from_key conditions f b no_bucket no_key held own =
+      in_bucket_has (get old from_bucket) old (λ from. in_object_by (get from.objects from_key) old (copied_under conditions old f)) no_bucket
+      (λ from there. in_object_has (get from.objects from_key) old (copied_under conditions old f) no_key
+      (λ o is. unless_has (not (may_be_copied conditions (head_of o))) fails_precondition old (f o) held (own o)))
 
   pub in_upload_has : (v : Option Upload) (key : List ℕ) (old : State) (f : Upload → Outcome) → P (Refused NoSuchUpload) → ((u : Upload) → v ≡ Some u → P (f u).reply) → P (in_upload_by v key old f).reply
   in_upload_has None key old f refused own = refused
@@ -662,9 +687,9 @@ delete_all_reply old v bucket keys quiet =
 
 -- the replies of the operations on uploads
 module _ (old : State) where
-  lists_uploads_reply : (v : Option Bucket) (bucket prefix key_marker id_marker : List ℕ) (max : ℕ) → IsMachineReply (in_bucket_by v old (lists_uploads old bucket prefix key_marker id_marker max)).reply
-  lists_uploads_reply v bucket prefix key_marker id_marker max =
-      in_bucket_has IsMachineReply v old (lists_uploads old bucket prefix key_marker id_marker max) ((λ f. cc), (λ f. cc), (λ f. cc)) (λ b e. ((λ f. cc), (λ f. cc), (λ f. cc)))
+  lists_uploads_reply : (v : Option Bucket) (bucket prefix key_marker id_marker : List ℕ) (max : ℕ) (url : Bool) → IsMachineReply (in_bucket_by v old (lists_uploads old bucket prefix key_marker id_marker max url)).reply
+  lists_uploads_reply v bucket prefix key_marker id_marker max url =
+      in_bucket_has IsMachineReply v old (lists_uploads old bucket prefix key_marker id_marker max url) ((λ f. cc), (λ f. cc), (λ f. cc)) (λ b e. ((λ f. cc), (λ f. cc), (λ f. cc)))
 
   starts_reply : (v : Option Bucket) (bucket key : List ℕ) (acl : Option Acl) (u : Upload) (id : ℕ) → IsMachineReply (in_bucket_by v old (starts old bucket key acl u id)).reply
   starts_reply v bucket key acl u id =
@@ -687,30 +712,32 @@ module _ (old : State) where
       in_bucket_has IsMachineReply v old (completes settings old bucket key id list moment) ((λ f. cc), (λ f. cc), (λ f. cc))
       (λ b e. completes_has IsMachineReply (kept_as key list (get b.kept id)) settings old bucket key id list moment b refused_code (λ name etag. ((λ f. cc), (λ f. cc), (λ f. cc))))
 
-  copies_reply : (v : Option Bucket) (bucket key : List ℕ) (acl : Option Acl) (from_bucket from_key : List ℕ) (replaced : Option Replaced) (moment : ℕ)
-      → IsMachineReply (in_bucket_by v old (copies old bucket key acl from_bucket from_key replaced moment)).reply
-  copies_reply v bucket key acl from_bucket from_key replaced moment =
-      in_bucket_has IsMachineReply v old (copies old bucket key acl from_bucket from_key replaced moment) ((λ f. cc), (λ f. cc), (λ f. cc))
-      (λ b e. unless_has IsMachineReply (is_other_acl acl b.acl) NotImplemented old (in_source old from_bucket from_key (copies_object old bucket key from_bucket from_key replaced moment) b) ((λ f. cc), (λ f. cc), (λ f. cc))
-      (in_source_has IsMachineReply old from_bucket from_key (copies_object old bucket key from_bucket from_key replaced moment) b ((λ f. cc), (λ f. cc), (λ f. cc)) ((λ f. cc), (λ f. cc), (λ f. cc))
+  copies_reply : (v : Option Bucket) (bucket key : List ℕ) (acl : Option Acl) (from_bucket from_key : List ℕ) (replaced : Option Replaced) (conditions : Conditions) (moment : ℕ)
+      → IsMachineReply (in_bucket_by v old (copies old bucket key acl from_bucket from_key replaced conditions moment)).reply
+  copies_reply v bucket key acl from_bucket from_key replaced conditions moment =
+      in_bucket_has IsMachineReply v old (copies old bucket key acl from_bucket from_key replaced conditions moment) ((λ f. cc), (λ f. cc), (λ f. cc))
+      (λ b e. unless_has IsMachineReply (is_other_acl acl b.acl) NotImplemented old (in_source old from_bucket from_key conditions (copies_object old bucket key from_bucket from_key replaced moment) b) ((λ f. cc), (λ f. cc), (λ f. cc))
+      (in_source_has IsMachineReply old from_bucket from_key conditions (copies_object old bucket key from_bucket from_key replaced moment) b
+      ((λ f. cc), (λ f. cc), (λ f. cc)) ((λ f. cc), (λ f. cc), (λ f. cc)) ((λ f. cc), (λ f. cc), (λ f. cc))
       (λ o. unless_has IsMachineReply (is_onto_itself bucket key from_bucket from_key replaced) InvalidRequest old
       (gives (Copied false o.etag moment) (adjust bucket (put_object key (copied replaced moment o)) old)) ((λ f. cc), (λ f. cc), (λ f. cc)) ((λ f. cc), (λ f. cc), (λ f. cc)))))
 
-  bytes_reply : (bucket id : List ℕ) (number : ℕ) (range : Option (ℕ × ℕ)) (moment : ℕ) (o : Object) → IsMachineReply (copies_bytes old bucket id number range moment o).reply
-  bytes_reply bucket id number range moment o =
+  bytes_reply : (settings : Settings) (bucket id : List ℕ) (number : ℕ) (range : Option (ℕ × ℕ)) (moment : ℕ) (o : Object) → IsMachineReply (copies_bytes settings old bucket id number range moment o).reply
+  bytes_reply settings bucket id number range moment o =
       unless_has IsMachineReply (not (has_last range (length o.bytes))) bad_range old
-      (unless (nat_lt most_body_bytes (copied_span range (length o.bytes)).length) EntityTooLarge old (puts_copy old bucket id number (new_part moment (bytes_copied range o))))
+      (unless (nat_lt (body_limit settings) (copied_span range (length o.bytes)).length) EntityTooLarge old (puts_copy old bucket id number (new_part moment (bytes_copied range o))))
       ((λ f. cc), (λ f. cc), (λ f. cc))
-      (unless_has IsMachineReply (nat_lt most_body_bytes (copied_span range (length o.bytes)).length) EntityTooLarge old (puts_copy old bucket id number (new_part moment (bytes_copied range o)))
+      (unless_has IsMachineReply (nat_lt (body_limit settings) (copied_span range (length o.bytes)).length) EntityTooLarge old (puts_copy old bucket id number (new_part moment (bytes_copied range o)))
       ((λ f. cc), (λ f. cc), (λ f. cc)) ((λ f. cc), (λ f. cc), (λ f. cc)))
 
-  copies_part_reply : (v : Option Bucket) (bucket key id : List ℕ) (number : ℕ) (from_bucket from_key : List ℕ) (range : Option (ℕ × ℕ)) (moment : ℕ)
-      → IsMachineReply (in_bucket_by v old (copies_part old bucket key id number from_bucket from_key range moment)).reply
-  copies_part_reply v bucket key id number from_bucket from_key range moment =
-      in_bucket_has IsMachineReply v old (copies_part old bucket key id number from_bucket from_key range moment) ((λ f. cc), (λ f. cc), (λ f. cc))
-      (λ b e. in_upload_has IsMachineReply (get b.uploads id) key old (λ u. in_source old from_bucket from_key (copies_bytes old bucket id number range moment) b) ((λ f. cc), (λ f. cc), (λ f. cc))
-      (λ u there. in_source_has IsMachineReply old from_bucket from_key (copies_bytes old bucket id number range moment) b ((λ f. cc), (λ f. cc), (λ f. cc)) ((λ f. cc), (λ f. cc), (λ f. cc))
-      (bytes_reply bucket id number range moment)))
+  copies_part_reply : (settings : Settings) (v : Option Bucket) (bucket key id : List ℕ) (number : ℕ) (from_bucket from_key : List ℕ) (range : Option (ℕ × ℕ)) (conditions : Conditions) (moment : ℕ)
+      → IsMachineReply (in_bucket_by v old (copies_part settings old bucket key id number from_bucket from_key range conditions moment)).reply
+  copies_part_reply settings v bucket key id number from_bucket from_key range conditions moment =
+      in_bucket_has IsMachineReply v old (copies_part settings old bucket key id number from_bucket from_key range conditions moment) ((λ f. cc), (λ f. cc), (λ f. cc))
+      (λ b e. in_upload_has IsMachineReply (get b.uploads id) key old (λ u. in_source old from_bucket from_key conditions (copies_bytes settings old bucket id number range moment) b) ((λ f. cc), (λ f. cc), (λ f. cc))
+      (λ u there. in_source_has IsMachineReply old from_bucket from_key conditions (copies_bytes settings old bucket id number range moment) b
+      ((λ f. cc), (λ f. cc), (λ f. cc)) ((λ f. cc), (λ f. cc), (λ f. cc)) ((λ f. cc), (λ f. cc), (λ f. cc))
+      (bytes_reply settings bucket id number range moment)))
 
 -- the machine itself never gives the reply of wanting memory, nor the two codes of the store below it
 pub machine_reply : (settings : Settings) (old : State) (op : Op) (label : Label) (reply : Reply) (new : State) → S3Step settings old op label reply new
@@ -728,14 +755,14 @@ machine_reply settings old (GetObject bucket key range conditions) label reply n
 machine_reply settings old (HeadObject bucket key range conditions) label reply new s = read_reply old reply (get old bucket) label key (headed range conditions) (headed_reply range conditions) s.replies
 machine_reply settings old (ListObjects bucket asked) label reply new s = list_reply old reply (get old bucket) label bucket asked s.replies
 machine_reply settings old (DeleteObject bucket key) label reply new s = delete_reply old reply (get old bucket) bucket key s.replies
-machine_reply settings old (ListUploads bucket prefix key_marker id_marker max) label reply new s = subst IsMachineReply (sym s.replies) (lists_uploads_reply old (get old bucket) bucket prefix key_marker id_marker max)
+machine_reply settings old (ListUploads bucket prefix key_marker id_marker max url) label reply new s = subst IsMachineReply (sym s.replies) (lists_uploads_reply old (get old bucket) bucket prefix key_marker id_marker max url)
 machine_reply settings old (CreateUpload bucket key acl content_type meta) label reply new s = subst IsMachineReply (sym s.replies) (starts_reply old (get old bucket) bucket key acl (new_upload key content_type meta label.moment) s.id)
 machine_reply settings old (UploadPart bucket key id number body) label reply new s = subst IsMachineReply (sym s.replies) (upload_reply old (get old bucket) key id (puts_part old bucket id number (new_part label.moment body)) (λ u. ((λ f. cc), (λ f. cc), (λ f. cc))))
 machine_reply settings old (ListParts bucket key id marker max) label reply new s = subst IsMachineReply (sym s.replies) (upload_reply old (get old bucket) key id (lists_parts old bucket key id marker max) (λ u. ((λ f. cc), (λ f. cc), (λ f. cc))))
 machine_reply settings old (CompleteUpload bucket key id list) label reply new s = subst IsMachineReply (sym s.replies) (completes_reply old (get old bucket) settings bucket key id list label.moment)
 machine_reply settings old (AbortUpload bucket key id) label reply new s = subst IsMachineReply (sym s.replies) (upload_reply old (get old bucket) key id (aborts old bucket id) (λ u. ((λ f. cc), (λ f. cc), (λ f. cc))))
 machine_reply settings old (DeleteObjects bucket keys quiet) label reply new s = subst IsMachineReply (sym s.replies) (delete_all_reply old (get old bucket) bucket keys quiet)
-machine_reply settings old (CopyObject bucket key acl from_bucket from_key replaced) label reply new s =
-    subst IsMachineReply (sym s.replies) (copies_reply old (get old bucket) bucket key acl from_bucket from_key replaced label.moment)
-machine_reply settings old (CopyPart bucket key id number from_bucket from_key range) label reply new s =
-    subst IsMachineReply (sym s.replies) (copies_part_reply old (get old bucket) bucket key id number from_bucket from_key range label.moment)
+machine_reply settings old (CopyObject bucket key acl from_bucket from_key replaced conditions) label reply new s =
+    subst IsMachineReply (sym s.replies) (copies_reply old (get old bucket) bucket key acl from_bucket from_key replaced conditions label.moment)
+machine_reply settings old (CopyPart bucket key id number from_bucket from_key range conditions) label reply new s =
+    subst IsMachineReply (sym s.replies) (copies_part_reply old settings (get old bucket) bucket key id number from_bucket from_key range conditions label.moment)

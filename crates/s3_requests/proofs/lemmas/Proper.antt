@@ -12,7 +12,7 @@ use Rattle.s3_names.specs.Key.{is_key}
 use Rattle.s3_machine.specs.declared.code.Code.{Code}
 use Rattle.s3_machine.specs.declared.code.Code.TheVariants.{MethodNotAllowed, NotImplemented, ServiceUnavailable, InconsistentStore}
 use Rattle.s3_machine.specs.declared.operation.Settings.{Settings}
-use Rattle.s3_machine.specs.Limits.{most_body_bytes}
+use Rattle.s3_machine.specs.Limits.{body_limit, most_body_bytes}
 use Rattle.s3_machine.specs.declared.operation.Listed.{Listed}
 use Rattle.s3_machine.specs.Step.{IsPlace, IsProperKeys, IsProperList}
 use Rattle.s3_machine.specs.Uploads.{most_parts}
@@ -164,8 +164,10 @@ place_of message target e none = record {
   keyed = key_at _ target.key e none.1.1.1.0;
 }
 
-short : (body : List ℕ) → nat_lt most_body_bytes (length body) ≡ false → length body ≤ most_body_bytes
-short body h = grind (arith, nat_tests)
+short : (settings : Settings) (body : List ℕ) → nat_lt (body_limit settings) (length body) ≡ false → length body ≤ most_body_bytes
+short settings body h =
+    let within : length body ≤ body_limit settings = grind (arith, nat_tests) in
+    omega (arith, within)
 
 -- the bucket of a request to a bucket
 bucket_of : (message : Message) (target : Target) → level_of target.bucket target.key ≡ Bucket → NoneHolds (target_reasons message target) → is_bucket target.bucket ≡ true
@@ -211,7 +213,7 @@ op_proper settings ListObjectsV2 message target caller e none also =
     (bucket_of message target (at_level message target ListObjectsV2 e) none, second_proper target.query (texts_of settings ListObjectsV2 message target caller also))
 op_proper settings PutObject message target caller e none also =
     let content = content_of settings PutObject message target caller also in
-    (place_of message target (at_level message target PutObject e) none, record { typed = is_named _ content.0; described = is_named _ content.1.1.1.0; sized = short message.body content.1.1.1.1.0 })
+    (place_of message target (at_level message target PutObject e) none, record { typed = is_named _ content.0; described = is_named _ content.1.1.1.0; sized = short settings message.body content.1.1.1.1.0 })
 op_proper settings GetObject message target caller e none also =
     (place_of message target (at_level message target GetObject e) none, range_proper message.headers)
 op_proper settings HeadObject message target caller e none also =
@@ -228,7 +230,7 @@ op_proper settings CreateMultipartUpload message target caller e none also =
     (place_of message target (at_level message target CreateMultipartUpload e) none, is_named _ content.0, is_named _ content.1.1.1.0)
 op_proper settings UploadPart message target caller e none also =
     let content = content_of settings UploadPart message target caller also in
-    (place_of message target (at_level message target UploadPart e) none, part_proper target.query, short message.body content.1.1.1.1.0)
+    (place_of message target (at_level message target UploadPart e) none, part_proper target.query, short settings message.body content.1.1.1.1.0)
 op_proper settings ListParts message target caller e none also =
     (place_of message target (at_level message target ListParts e) none, most_proper (codes "max-parts") target.query)
 op_proper settings AbortMultipartUpload message target caller e none also = place_of message target (at_level message target AbortMultipartUpload e) none

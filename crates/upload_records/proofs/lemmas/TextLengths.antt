@@ -77,8 +77,8 @@ part_number_short n e =
     let near = leb-true n greatest_part (and_parts (nat_le 1 n) (nat_le n greatest_part) e).1 in
     length-decimal-le 5 n (omega arith) (omega (arith, near)) (omega (arith, near))
 
-size_short : (n : ℕ) → nat_le n most_body_bytes ≡ true → length (compact_text (number (unsigned n))) ≤ 8
-size_short n e = let near = leb-true n most_body_bytes e in length-decimal-le 8 n (omega arith) (omega (arith, near)) (omega (arith, near))
+size_short : (n : ℕ) → nat_le n most_body_bytes ≡ true → length (compact_text (number (unsigned n))) ≤ 10
+size_short n e = let near = leb-true n most_body_bytes e in length-decimal-le 10 n (omega arith) (omega (arith, near)) (omega (arith, near))
 
 few_parts : (n : ℕ) → places.is_part_count n ≡ true → n ≤ 10000
 unfolding most_parts
@@ -133,7 +133,7 @@ all_listed_short false (l ∷ list) e =
     let size = length-append (compact_text (record_part_json l)) (items_text true (items_of (map record_part_json list))) in
     omega (arith, one, more, size)
 
-part_short : (p : SealedPart) → part_fits_sealed_text p ≡ true → length (compact_text (sealed_part_json p)) ≤ 211
+part_short : (p : SealedPart) → part_fits_sealed_text p ≡ true → length (compact_text (sealed_part_json p)) ≤ 213
 part_short p e =
     let parts = and_parts (part_number_fits_record_text p.number && is_etag p.etag) (nat_le p.size most_body_bytes) e in
     let front = and_parts (part_number_fits_record_text p.number) (is_etag p.etag) parts.0 in
@@ -145,7 +145,7 @@ part_short p e =
     let outer = length-append (decimal p.number) (44 ∷ (quoted p.etag ++ 44 ∷ (decimal p.size ++ 93 ∷ []))) in
     omega (arith, count, etag, size, last, inner, outer)
 
-all_parts_short : (later : Bool) (list : List SealedPart) → list_all part_fits_sealed_text list ≡ true → length (items_text later (items_of (map sealed_part_json list))) ≤ 212 * length list + 1
+all_parts_short : (later : Bool) (list : List SealedPart) → list_all part_fits_sealed_text list ≡ true → length (items_text later (items_of (map sealed_part_json list))) ≤ 214 * length list + 1
 all_parts_short later [] e = omega arith
 all_parts_short true (p ∷ list) e =
     let parts = and_parts (part_fits_sealed_text p) (list_all part_fits_sealed_text list) e in
@@ -167,7 +167,7 @@ list_short list e =
     let text = all_listed_short false list parts.1 in
     omega (arith, few, text)
 
-parts_short : (list : List SealedPart) → is_sealed_list list ≡ true → length (compact_text (array_of sealed_part_json list)) ≤ 2120002
+parts_short : (list : List SealedPart) → is_sealed_list list ≡ true → length (compact_text (array_of sealed_part_json list)) ≤ 2140002
 parts_short list e =
     let parts = and_parts (places.is_part_count (length list)) (list_all part_fits_sealed_text list) e in
     let few = few_parts (length list) parts.0 in
@@ -325,27 +325,27 @@ module _ (s : Sealed) where
   abbrev from_bucket : Members
   from_bucket = member (codes "bucket") (string s.bucket) from_etag
 
-  list_on : content_fits_record_text s.content_type s.meta ≡ true → is_sealed_list s.list ≡ true → nat_lt s.started moment_limit ≡ true → length (members_text true from_list) ≤ 2135100
+  list_on : content_fits_record_text s.content_type s.meta ≡ true → is_sealed_list s.list ≡ true → nat_lt s.started moment_limit ≡ true → length (members_text true from_list) ≤ 2155100
   list_on content listed started =
       let typed = and_parts (is_content_type s.content_type) _ content in
       let v = member_short true (codes "v") (number (unsigned 1)) no_members 1 1 (omega arith) (digit_short 1 (omega arith)) (omega arith) in
       let t = member_short true (codes "type") (string s.content_type) (member (codes "v") (number (unsigned 1)) no_members) 1538 48 (omega arith) (string_short s.content_type 256 (type_size s.content_type typed.0)) v in
       let a = member_short true (codes "started") (number (unsigned s.started)) from_type 12 1632 (omega arith) (dated_short s.started started) t in
       let m = member_short true (codes "meta") (array_of metadata_pair_json s.meta) from_started 13194 1690 (omega arith) (meta_short s.meta (and_parts (is_proper_meta s.meta) (names_ascend s.meta) typed.1).0) a in
-      let l = member_short true (codes "list") (array_of sealed_part_json s.list) from_meta 2120002 14930 (omega arith) (parts_short s.list listed) m in
+      let l = member_short true (codes "list") (array_of sealed_part_json s.list) from_meta 2140002 14930 (omega arith) (parts_short s.list listed) m in
       omega (arith, l)
 
-  bucket_on : is_bucket s.bucket ≡ true → is_key s.key ≡ true → mark.is_etag s.etag ≡ true → length (members_text true from_list) ≤ 2135100 → length (members_text true from_bucket) ≤ 2142500
+  bucket_on : is_bucket s.bucket ≡ true → is_key s.key ≡ true → mark.is_etag s.etag ≡ true → length (members_text true from_list) ≤ 2155100 → length (members_text true from_bucket) ≤ 2162500
   bucket_on is keyed tagged listed =
       let ids = length-id_digits s.id in
-      let k = member_short true (codes "key") (string s.key) from_list 6146 2135100 (omega arith) (string_short s.key 1024 (key_length s.key keyed).1) listed in
-      let i = member_short true (codes "id") (string (id_digits s.id)) from_key 194 2141292 (omega arith) (string_short (id_digits s.id) 32 (omega (arith, ids))) k in
-      let e = member_short true (codes "etag") (string s.etag) from_id 230 2141532 (omega arith) (string_short s.etag 38 (etag_length s.etag tagged)) i in
-      let b = member_short true (codes "bucket") (string s.bucket) from_etag 380 2141808 (omega arith) (string_short s.bucket 63 (bucket_length s.bucket is).1) e in
+      let k = member_short true (codes "key") (string s.key) from_list 6146 2155100 (omega arith) (string_short s.key 1024 (key_length s.key keyed).1) listed in
+      let i = member_short true (codes "id") (string (id_digits s.id)) from_key 194 2161292 (omega arith) (string_short (id_digits s.id) 32 (omega (arith, ids))) k in
+      let e = member_short true (codes "etag") (string s.etag) from_id 230 2161532 (omega arith) (string_short s.etag 38 (etag_length s.etag tagged)) i in
+      let b = member_short true (codes "bucket") (string s.bucket) from_etag 380 2161808 (omega arith) (string_short s.bucket 63 (bucket_length s.bucket is).1) e in
       omega (arith, b)
 
   -- the text of a sealed completion
-  pub sealed_short : has_sealed_text s ≡ true → length (sealed_text s) ≤ 2150000
+  pub sealed_short : has_sealed_text s ≡ true → length (sealed_text s) ≤ 2170000
   unfolding has_sealed_text sealed_text
   sealed_short has =
       let place = and_parts (is_sealed_place s) _ has in
@@ -355,5 +355,5 @@ module _ (s : Sealed) where
       let tagged = and_parts (mark.is_etag s.etag) (is_sealed_dated s) listed.1 in
       let dates = and_parts (nat_lt s.started moment_limit) (nat_lt s.moment moment_limit) tagged.1 in
       let rest = bucket_on of_bucket.0 of_bucket.1 tagged.0 (list_on content.0 listed.0 dates.0) in
-      let all = member_short false (codes "at") (number (unsigned s.moment)) from_bucket 12 2142500 (omega arith) (dated_short s.moment dates.1) rest in
+      let all = member_short false (codes "at") (number (unsigned s.moment)) from_bucket 12 2162500 (omega arith) (dated_short s.moment dates.1) rest in
       omega (arith, all)

@@ -11,7 +11,7 @@ invariant-requests g l = record {
   line : LineServes false (g.N.Line.model l.initial.line) (g.N.Line.model l.line);
   goes_on : g.S.Service.GoesOn l.initial.service l.service;
   serves : (view : g.S.Service.View) → g.S.Service.Given view l.initial.service → IsTrue (g.N.Line.model l.initial.line).observable
-      → Answered g.S.Service.number (g.S.Service.Answers view l.service) (g.N.Line.model l.initial.line).transcript.begun
+      → Answered g.S.Service.number g.S.Service.limit (g.S.Service.Answers view l.service) (g.N.Line.model l.initial.line).transcript.begun
       (start_of (g.N.Line.model l.initial.line).transcript (g.S.Service.state l.initial.service)) (cursor_of l.reader (g.N.Line.model l.line).transcript (g.S.Service.state l.service));
 }
 

@@ -53,8 +53,8 @@ returns-in-Some-clause-serves g c = λ view given told.
     let begin = run_cursor (g.N.Line.model c.args.line.now).transcript (g.S.Service.state c.args.service.now) in
     let present = run_cursor (g.N.Line.model c.connections.line).transcript (g.S.Service.state c.connections.service) in
     let next = run_cursor (g.N.Line.model c.serve_another.new.line).transcript (g.S.Service.state c.serve_another.new.service) in
-    served_end g.S.Service.number g.S.Service.memory (g.S.Service.Answers view c.serve_another.new.service) begin present next c.in-Some.stopped
-    (served_on g.S.Service.number g.S.Service.memory (g.met.S.Service.answers_on view c.connections.service c.serve_another.new.service step.goes now) begin present (i.serves view given told))
+    served_end g.S.Service.number g.S.Service.limit g.S.Service.memory (g.S.Service.Answers view c.serve_another.new.service) begin present next c.in-Some.stopped
+    (served_on g.S.Service.number g.S.Service.limit g.S.Service.memory (g.met.S.Service.answers_on view c.connections.service c.serve_another.new.service step.goes now) begin present (i.serves view given told))
     (step.serves view now (i.observable told))
 
 pub connections-preserved : goal.connections-preserved
@@ -76,7 +76,7 @@ connections-preserved g c =
           let begin = run_cursor (g.N.Line.model c.args.line.now).transcript (g.S.Service.state c.args.service.now) in
           let present = run_cursor (g.N.Line.model c.connections.line).transcript (g.S.Service.state c.connections.service) in
           let next = run_cursor (g.N.Line.model c.serve_another.new.line).transcript (g.S.Service.state c.serve_another.new.service) in
-          served_more g.S.Service.number g.S.Service.memory (g.S.Service.Answers view c.serve_another.new.service) begin present next
-          (served_on g.S.Service.number g.S.Service.memory (g.met.S.Service.answers_on view c.connections.service c.serve_another.new.service step.goes now) begin present (i.serves view given told))
+          served_more g.S.Service.number g.S.Service.limit g.S.Service.memory (g.S.Service.Answers view c.serve_another.new.service) begin present next
+          (served_on g.S.Service.number g.S.Service.limit g.S.Service.memory (g.met.S.Service.answers_on view c.connections.service c.serve_another.new.service step.goes now) begin present (i.serves view given told))
           (step.serves view now (i.observable told));
     }

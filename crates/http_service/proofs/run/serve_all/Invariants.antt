@@ -15,7 +15,7 @@ invariant-connections g l = record {
   counts : IsTrue (g.N.Line.model l.initial.line).observable → Counts l.fn.most l.left (g.N.Line.model l.initial.line).transcript.begun (g.N.Line.model l.line).transcript.begun;
   goes : g.S.Service.GoesOn l.initial.service l.service;
   serves : (view : g.S.Service.View) → g.S.Service.Given view l.initial.service → IsTrue (g.N.Line.model l.initial.line).observable
-      → Served g.S.Service.number g.S.Service.memory (g.S.Service.Answers view l.service)
+      → Served g.S.Service.number g.S.Service.limit g.S.Service.memory (g.S.Service.Answers view l.service)
       (run_cursor (g.N.Line.model l.initial.line).transcript (g.S.Service.state l.initial.service)) (run_cursor (g.N.Line.model l.line).transcript (g.S.Service.state l.service));
 }
 

@@ -11,12 +11,12 @@ returns-in_err-head-clause-plans g c = λ key text. told_nothing (lit≤ tt) c.i
 pub returns-in_default-clause-plans : goal.returns-in_default-clause-plans
 returns-in_default-clause-plans g c = λ key text.
     answers (lit≤ tt) None c.in_default.is _ c.in_ok-head.ensures.asks (search rules)
-    (λ tree may none. copy_of_none _ _ _ _ _ _ _ _ _ tree c.requires.name c.args.id may none)
+    (λ tree may none. copy_of_none _ _ _ _ _ _ _ _ _ _ tree c.requires.name c.args.id may none)
 
 pub returns-clause-plans : goal.returns-clause-plans
 returns-clause-plans g c = λ key text.
-    goes_on (lit≤ tt) (Some c.in-Some.head) c.in-Some.is c.head_object.ensures.stays.settings c.in_ok-head.ensures.asks (c.plan_part_copy_of_source.ensures.plans key text)
+    goes_on (lit≤ tt) (Some c.in-Some.head) c.in-Some.is c.head_object.ensures.stays.settings c.in_ok-head.ensures.asks (c.plan_part_copy_under_conditions.ensures.plans key text)
     (λ tree may there. record { opened = may.opened; source = there })
 
 pub returns-clause-stops : goal.returns-clause-stops
-returns-clause-stops g c = stops_behind c.in_ok-head.ensures.asks _ c.plan_part_copy_of_source.ensures.stops
+returns-clause-stops g c = stops_behind c.in_ok-head.ensures.asks _ c.plan_part_copy_under_conditions.ensures.stops

@@ -1,6 +1,7 @@
-use Rattle.std.proofs.Common.{sym, ◌∙◌, lit≤, arith, rules}
+use Rattle.std.proofs.Common.{ap, sym, ◌∙◌, lit≤, arith, rules}
+use Rattle.s3_machine.specs.Limits.{body_limit}
 use Rattle.account_calls.proofs.lemmas.Ends.{needs_none}
-use Rattle.many_keys.proofs.CopiedPart.{copy_is_empty, copy_past_end, copy_too_large, not_large, plans_within, same_length, too_large}
+use Rattle.many_keys.proofs.CopiedPart.{copy_is_empty, copy_past_end, copy_too_large, plans_within, same_length, too_large}
 use Rattle.account_calls.proofs.lemmas.Puts.{ensures_less}
 use Rattle.account_calls.proofs.lemmas.Refusals.{stops_unrefused}
 use Rattle.many_keys.proofs.copied_part.plan_part_copy_of_source.Goals as goal
@@ -9,16 +10,16 @@ pub returns-then-not-has_last-clause-plans : goal.returns-then-not-has_last-clau
 returns-then-not-has_last-clause-plans g c = λ key text.
     needs_none _ (search rules) (λ tree may. copy_past_end _ _ _ _ _ _ _ _ _ tree c.requires.name c.args.id c.args.head may (sym c.has_last.ensures ∙ c.if-not-has_last.true))
 
-pub returns-then-wanted-gt-MOST_BODY_BYTES-clause-plans : goal.returns-then-wanted-gt-MOST_BODY_BYTES-clause-plans
-returns-then-wanted-gt-MOST_BODY_BYTES-clause-plans g c = λ key text.
+pub returns-then-wanted-limit-clause-plans : goal.returns-then-wanted-limit-clause-plans
+returns-then-wanted-limit-clause-plans g c = λ key text.
     needs_none _ (search rules)
-    (λ tree may. copy_too_large _ _ _ _ _ _ _ _ _ tree c.requires.name c.args.id c.args.head may (sym c.has_last.ensures ∙ c.if-not-has_last.false) (too_large _ _ (same_length c.copied_span-wanted.ensures) c.if-wanted-gt-MOST_BODY_BYTES.true))
+    (λ tree may. copy_too_large _ _ _ _ _ _ _ _ _ tree c.requires.name c.args.id c.args.head may (sym c.has_last.ensures ∙ c.if-not-has_last.false) (too_large _ _ _ _ (c.body_limit-limit.ensures ∙ ap body_limit c.settings.ensures) (same_length c.copied_span-wanted.ensures) c.if-wanted-limit.true))
 
 pub returns-then-wanted-eq0-clause-plans : goal.returns-then-wanted-eq0-clause-plans
 returns-then-wanted-eq0-clause-plans g c = λ key text.
     plans_within (lit≤ tt)
     (λ tree may. copy_is_empty c.args.state.now.settings.now _ _ _ c.args.number _ _ _ c.args.label.now tree c.requires.name c.args.id c.args.head may (sym c.has_last.ensures ∙ c.if-not-has_last.false)
-    (not_large _ _ (same_length c.copied_span-wanted.ensures) (omega (arith, c.if-wanted-eq0.true))) (sym (same_length c.copied_span-wanted.ensures) ∙ c.if-wanted-eq0.true))
+    c.requires.range (sym (same_length c.copied_span-wanted.ensures) ∙ c.if-wanted-eq0.true))
     (rw c.new.ensures at c.plan_put_part_copy.ensures.plans key text c.args.from_bucket c.args.from_key c.args.range)
 
 pub returns-clause-plans : goal.returns-clause-plans

@@ -16,7 +16,7 @@ pub returns-clause-plans : goal.returns-clause-plans
 returns-clause-plans g c = λ key text from_bucket from_key range.
     subst (Plans _ _ _ _ _ _ _ _) (sym c.end_upload_part_copy_plan.ensures)
     (commits _ (lit≤ tt) c.put_part.ensures.changes (λ done. copied_is_own _ _ c.requires.moment) (λ tree may. has_open may.opened)
-    (λ tree done new may is. becomes (copy_stored _ _ _ _ _ _ _ _ _ tree c.requires.name c.args.id _ _ (c.in_ok-text.ensures ∙ c.requires.etag) may) is))
+    (λ tree done new may is. becomes (copy_stored _ _ _ _ _ _ _ _ _ tree c.requires.name c.args.id _ _ (c.in_ok-text.ensures ∙ c.requires.etag) c.requires.sized may) is))
 
 pub returns-clause-stands : goal.returns-clause-stands
 returns-clause-stands g c = subst (EnsuresIfDone _ _) (sym c.end_upload_part_copy_plan.ensures) (ensures_ended _ _ c.put_part.ensures.stands)

@@ -15,12 +15,12 @@ returns-in_err-find_upload-clause-plans g c = asked_in_vain (always 2) (lit≤ t
 pub returns-in-NoBucket-clause-plans : goal.returns-in-NoBucket-clause-plans
 returns-in-NoBucket-clause-plans g c =
     asked_reply (always 2) (lit≤ tt) (λ tree has. has.settled) NoBucket c.in-NoBucket.is _ c.in_ok-find_upload.ensures.asks (search rules)
-    (λ tree sound has missing. copy_missing _ _ _ _ _ _ _ _ _ _ missing)
+    (λ tree sound has missing. copy_missing _ _ _ _ _ _ _ _ _ _ _ missing)
 
 pub returns-in-NoUpload-clause-plans : goal.returns-in-NoUpload-clause-plans
 returns-in-NoUpload-clause-plans g c =
     asked_reply (always 2) (lit≤ tt) (λ tree has. has.settled) NoUpload c.in-NoUpload.is _ c.in_ok-find_upload.ensures.asks (search rules)
-    (λ tree sound has lacks. copy_lost _ _ _ _ _ _ _ _ _ tree c.requires.place.named lacks)
+    (λ tree sound has lacks. copy_lost _ _ _ _ _ _ _ _ _ _ tree c.requires.place.named lacks)
 
 pub returns-in-Open-clause-plans : goal.returns-in-Open-clause-plans
 returns-in-Open-clause-plans g c =

@@ -12,14 +12,14 @@ returns-in_err-head-clause-plans g c = told_nothing (as_few c.args.bucket c.args
 
 pub returns-in_default-clause-plans : goal.returns-in_default-clause-plans
 returns-in_default-clause-plans g c =
-    answers (as_few c.args.bucket c.args.from_bucket c.args.from_key 1 3 _ (lit≤ tt)) None c.in_default.is _ c.in_ok-head.ensures.asks (search rules) (λ tree found told. copy_source_missing _ _ _ _ _ _ _ _ _ _ c.requires.acl found told)
+    answers (as_few c.args.bucket c.args.from_bucket c.args.from_key 1 3 _ (lit≤ tt)) None c.in_default.is _ c.in_ok-head.ensures.asks (search rules) (λ tree found told. copy_source_missing _ _ _ _ _ _ _ _ _ _ _ c.requires.acl found told)
 
 pub returns-clause-plans : goal.returns-clause-plans
 returns-clause-plans g c =
-    goes_on_from met_settled c.head_source.ensures.stays.settings c.in_ok-head.ensures.asks c.copy_found.ensures.plans
+    goes_on_from met_settled c.head_source.ensures.stays.settings c.in_ok-head.ensures.asks c.copy_under_conditions.ensures.plans
     (after_told (λ tree. IsFoundBucket c.args.bucket c.args.list c.args.from_bucket (s3_state tree)) (λ tree. IsFoundSource c.args.bucket c.args.list c.args.from_bucket c.args.from_key c.in-Some.head (s3_state tree))
     (Some c.in-Some.head) c.in-Some.is (λ tree found told. record { listed = found.listed; source = told }))
     (λ x. one_more c.args.bucket c.args.from_bucket c.args.from_key 2 x.1.same)
 
 pub returns-clause-stops : goal.returns-clause-stops
-returns-clause-stops g c = stops_behind c.in_ok-head.ensures.asks _ c.copy_found.ensures.stops
+returns-clause-stops g c = stops_behind c.in_ok-head.ensures.asks _ c.copy_under_conditions.ensures.stops

@@ -12,7 +12,7 @@ returns-in_err-list-clause-plans g c = told_nothing (as_few c.args.bucket c.args
 
 pub returns-in_default-clause-plans : goal.returns-in_default-clause-plans
 returns-in_default-clause-plans g c =
-    answers (as_few c.args.bucket c.args.from_bucket c.args.from_key 1 5 _ (lit≤ tt)) None c.in_default.is _ c.in_ok-list.ensures.asks (search rules) (λ tree any told. copy_missing _ _ _ _ _ _ _ _ _ told)
+    answers (as_few c.args.bucket c.args.from_bucket c.args.from_key 1 5 _ (lit≤ tt)) None c.in_default.is _ c.in_ok-list.ensures.asks (search rules) (λ tree any told. copy_missing _ _ _ _ _ _ _ _ _ _ told)
 
 pub returns-clause-plans : goal.returns-clause-plans
 returns-clause-plans g c =

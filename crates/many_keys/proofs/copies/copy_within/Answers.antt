@@ -9,7 +9,7 @@ use Rattle.account_calls.proofs.lemmas.Refusals.{stops_behind}
 use Rattle.many_keys.proofs.copies.copy_within.Goals as goal
 
 pub returns-then-is_other_acl-clause-plans : goal.returns-then-is_other_acl-clause-plans
-returns-then-is_other_acl-clause-plans g c = needs_none _ (search rules) (λ tree there. copy_other _ _ _ _ _ _ _ _ _ _ there (sym c.is_other_acl.ensures ∙ c.if-is_other_acl.true))
+returns-then-is_other_acl-clause-plans g c = needs_none _ (search rules) (λ tree there. copy_other _ _ _ _ _ _ _ _ _ _ _ there (sym c.is_other_acl.ensures ∙ c.if-is_other_acl.true))
 
 pub returns-in_err-from-clause-plans : goal.returns-in_err-from-clause-plans
 returns-in_err-from-clause-plans g c = told_nothing (as_few c.args.bucket c.args.from_bucket c.args.from_key 1 4 _ (lit≤ tt)) c.in_err-from.ensures.asks _ c.from_residual.ensures.1
@@ -17,7 +17,7 @@ returns-in_err-from-clause-plans g c = told_nothing (as_few c.args.bucket c.args
 pub returns-in_default-clause-plans : goal.returns-in_default-clause-plans
 returns-in_default-clause-plans g c =
     answers (as_few c.args.bucket c.args.from_bucket c.args.from_key 1 4 _ (lit≤ tt)) None c.in_default.is _ c.in_ok-from.ensures.asks (search rules)
-    (λ tree there told. copy_from_missing _ _ _ _ _ _ _ _ _ _ there (sym c.is_other_acl.ensures ∙ c.if-is_other_acl.false) told)
+    (λ tree there told. copy_from_missing _ _ _ _ _ _ _ _ _ _ _ there (sym c.is_other_acl.ensures ∙ c.if-is_other_acl.false) told)
 
 pub returns-clause-plans : goal.returns-clause-plans
 returns-clause-plans g c =
