@@ -10,9 +10,9 @@ use Rattle.upload_records.proofs.lemmas.Beside.{records_there}
 use Rattle.account_calls.specs.Answers.{pages}
 use Rattle.account_calls.proofs.lemmas.Ascending.{keys_ascend}
 use Rattle.account_calls.proofs.lemmas.Walk.{length-keys}
-use Rattle.sweep.specs.declared.containers.Kind.TheVariants.{Records, Segments}
+use Rattle.leftovers.specs.declared.sides.Kind.TheVariants.{Records, Segments}
 use Rattle.sweep.specs.Containers.{calls_beside, calls_by_side, name_calls}
-use Rattle.sweep.specs.Sides.{Side, beside_records, beside_segments, side_of}
+use Rattle.leftovers.specs.Sides.{Side, beside_records, beside_segments, side_of}
 use Rattle.sweep.specs.Swept.{account_calls, files_in}
 use Rattle.sweep.specs.Walk.{names_calls}
 use Rattle.sweep.proofs.Charges.{charge, charges, sums, three_within}

@@ -20,12 +20,12 @@ use Rattle.upload_records.proofs.lemmas.Settled.{seal_holds}
 use Rattle.upload_records.proofs.lemmas.Sides.{bucket_uploads, gateway_uploads, segments_uploads}
 use Rattle.sweep.specs.Aging.{AgesAll, aged, dated, is_beside_one, is_in, is_old, record_beside}
 use Rattle.sweep.specs.Forgetting.{is_undated}
-use Rattle.sweep.specs.Leftovers.{all_if, id_in, is_listed_in, is_missing, is_open, is_orphan, is_sealed_in, is_used, left_by, left_in, left_there, leftovers, one_if}
-use Rattle.sweep.specs.Sides.{Side, beside_records, beside_segments, is_uploads_of, side_of}
+use Rattle.leftovers.specs.Leftovers.{all_if, id_in, is_listed_in, is_missing, is_open, is_orphan, is_sealed_in, is_used, left_by, left_in, left_there, leftovers, one_if}
+use Rattle.leftovers.specs.Sides.{Side, beside_records, beside_segments, is_uploads_of, side_of}
 use Rattle.sweep.specs.Swept.{files_in}
 use Rattle.sweep.proofs.AgesMany.{or_both}
 use Rattle.sweep.proofs.AgingNames.{apart_eq, off_others}
-use Rattle.sweep.proofs.Removals.{filter_alike}
+use Rattle.leftovers.proofs.lemmas.Lists.{filter_alike}
 use Rattle.sweep.proofs.SideNames.{records_side, segments_side}
 
 -- ---- a record is open still, and has its moment

@@ -16,7 +16,7 @@ use Rattle.sweep.specs.declared.forget.Aged.{Aged}
 use Rattle.sweep.specs.Aging.{Ages, AreDistinct, TellsAged, aged, is_in, is_old, old_among, record_beside, undated_among}
 use Rattle.sweep.specs.Forgetting.{is_undated_since}
 use Rattle.sweep.proofs.AgesOne.{pair_with}
-use Rattle.sweep.proofs.Touched.{touches_none, touches_trans}
+use Rattle.leftovers.proofs.lemmas.Touched.{touches_none, touches_trans}
 
 -- ---- what became of a record stays
 

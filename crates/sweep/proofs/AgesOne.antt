@@ -42,7 +42,7 @@ use Rattle.sweep.specs.Forgetting.{forget_kept, is_undated, without_kept}
 use Rattle.sweep.specs.Laws.{HasDone}
 use Rattle.sweep.proofs.ForgetOne.{ForgetEffect, IsForgetOf}
 use Rattle.sweep.proofs.KeptRecords.{kept_dated, kept_forgotten}
-use Rattle.sweep.proofs.Touched.{touches_none}
+use Rattle.leftovers.proofs.lemmas.Touched.{touches_none}
 
 -- ---- GET of a record
 

@@ -17,7 +17,7 @@ use Rattle.upload_records.proofs.lemmas.Sides.{bucket_uploads}
 use Rattle.account_calls.specs.declared.fault.PlanFault.{PlanFault}
 use Rattle.sweep.specs.declared.forget.Aged.{Aged}
 use Rattle.sweep.specs.Aging.{Ages, AreDistinct, Forgetting, HasFile, HasFiles, TellsAged, is_in, old_among}
-use Rattle.sweep.specs.Segments.{HasSettled}
+use Rattle.leftovers.specs.Segments.{HasSettled}
 use Rattle.sweep.proofs.AgesMany.{ages_none, apart_one, distinct_at, olds_append, olds_join, tells_then}
 use Rattle.sweep.proofs.ForgetCalls.{forgetting_failed, forgetting_idle, forgetting_then, forgetting_told}
 

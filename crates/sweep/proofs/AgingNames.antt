@@ -30,8 +30,8 @@ use Rattle.sweep.specs.declared.forget.Aged.{Aged}
 use Rattle.sweep.specs.Aging.{Ages, AgesAll, AreDistinct, Forgetting, TellsAllAged, TellsBeside, aged, aging_calls, forget_calls, ids_beside, is_beside_one, is_in, is_old, names_forget_calls, old_beside, old_of, record_beside, undated_beside, undated_of}
 use Rattle.sweep.specs.Containers.{HasContainer}
 use Rattle.sweep.specs.Forgetting.{is_undated_since}
-use Rattle.sweep.specs.Segments.{HasSettled}
-use Rattle.sweep.specs.Sides.{is_uploads_of}
+use Rattle.leftovers.specs.Segments.{HasSettled}
+use Rattle.leftovers.specs.Sides.{is_uploads_of}
 use Rattle.sweep.proofs.AgesMany.{AreApart, aged_again, apart_one, distinct_at, or_both, or_left, or_right}
 use Rattle.sweep.proofs.AgesOne.{pair_with, same_name}
 use Rattle.sweep.proofs.ForgetCalls.{Pairs, forgetting_failed, forgetting_idle, forgetting_then, forgetting_told, forgot_here, sound_here}

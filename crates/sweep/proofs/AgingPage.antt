@@ -20,11 +20,11 @@ use Rattle.account_calls.proofs.lemmas.Quiet.{asks_no_memory, asks_under, told_h
 use Rattle.account_calls.proofs.lemmas.Removal.{IsNext, next_is}
 use Rattle.sweep.specs.declared.forget.Aged.{Aged}
 use Rattle.sweep.specs.Aging.{AreDistinct, Forgetting, HasFiles, PaysForgetting, TellsAged, TellsAgedPage, TurnsBy, forget_after, old_among, page_of}
-use Rattle.sweep.specs.Gathering.{names_after}
-use Rattle.sweep.specs.Segments.{HasSettled}
+use Rattle.leftovers.specs.Gathering.{names_after}
+use Rattle.leftovers.specs.Segments.{HasSettled}
 use Rattle.sweep.proofs.ForgetCalls.{forgetting_quiet, forgetting_quiet_failed, forgetting_then, forgetting_told, forgetting_vain, forgot_here, no_olds}
 use Rattle.sweep.proofs.PageNames.{distinct_page, last_is, last_out, lt_less, names_stay, page_is, page_there}
-use Rattle.sweep.proofs.Turned.{ended, turned}
+use Rattle.leftovers.proofs.lemmas.Turned.{ended, turned}
 
 module _ (bucket marker : List ℕ) (page : List NameItem) where
   abbrev folder : List ℕ

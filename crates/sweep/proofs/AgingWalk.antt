@@ -14,8 +14,8 @@ use Rattle.account_calls.specs.declared.fault.PlanFault.{PlanFault}
 use Rattle.account_calls.specs.Calls.{Met}
 use Rattle.sweep.specs.declared.forget.Aged.{Aged}
 use Rattle.sweep.specs.Aging.{AreDistinct, Forgetting, MakesForgetCalls, PaysForgetting, TellsAged, TellsAgedPage, TellsBeside, TurnsBy, aging_calls, forget_after, forget_calls, forget_left, ids_beside, old_among, old_beside, page_of}
-use Rattle.sweep.specs.Gathering.{names_after}
-use Rattle.sweep.specs.Segments.{HasSettled}
+use Rattle.leftovers.specs.Gathering.{names_after}
+use Rattle.leftovers.specs.Segments.{HasSettled}
 use Rattle.sweep.proofs.AgesMany.{AreApart, ages_none, distinct_parts, olds_append, olds_join, tells_then}
 use Rattle.sweep.proofs.AgingItems.{settled_after}
 use Rattle.sweep.proofs.ForgetCalls.{forgetting_failed, forgetting_idle, forgetting_then, forgetting_told, forgot_here, sound_here}

@@ -23,16 +23,16 @@ use Rattle.account_calls.proofs.lemmas.Idle.{grows_none, none_made}
 use Rattle.account_calls.proofs.lemmas.Quiet.{asks_left, asks_under, asks_untold, told_here}
 use Rattle.account_calls.proofs.lemmas.SideNames.{segments_fits, uploads_fits}
 use Rattle.sweep.specs.declared.account.Swept.{Swept}
-use Rattle.sweep.specs.declared.containers.Kind.{Kind}
-use Rattle.sweep.specs.declared.containers.Kind.TheVariants.{Records, Segments}
-use Rattle.sweep.specs.Containers.{calls_beside, calls_there, folder_beside, side_by, side_calls, HasSide, SweepsSide}
-use Rattle.sweep.specs.Leftovers.{all_if, is_missing, is_orphan, is_used, left_by, left_there, nothing_left, one_if}
-use Rattle.sweep.specs.Segments.{HasSettled, SweepsSegments}
-use Rattle.sweep.specs.Swept.{clear_calls, ClearsSide, IsStray, TellsThere}
-use Rattle.sweep.proofs.Joined.{asks_counted, asks_then_by}
-use Rattle.sweep.proofs.Readings.{asks_account}
-use Rattle.sweep.proofs.Removals.{filter_alike}
-use Rattle.sweep.proofs.Strays.{filter_all}
+use Rattle.leftovers.specs.declared.sides.Kind.{Kind}
+use Rattle.leftovers.specs.declared.sides.Kind.TheVariants.{Records, Segments}
+use Rattle.sweep.specs.Containers.{calls_beside, calls_there, side_calls, HasSide, SweepsSide}
+use Rattle.leftovers.specs.Sides.{folder_beside, side_by}
+use Rattle.leftovers.specs.Leftovers.{all_if, is_missing, is_orphan, is_used, left_by, left_there, nothing_left, one_if}
+use Rattle.leftovers.specs.Segments.{HasSettled, SweepsSegments}
+use Rattle.leftovers.specs.Strays.{clear_calls, ClearsSide, IsStray, TellsThere}
+use Rattle.leftovers.proofs.lemmas.Joined.{asks_counted, asks_then_by}
+use Rattle.leftovers.proofs.lemmas.Readings.{asks_account}
+use Rattle.leftovers.proofs.lemmas.Lists.{filter_alike, filter_all}
 
 -- ---- calls with any bound
 

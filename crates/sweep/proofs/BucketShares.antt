@@ -20,14 +20,15 @@ use Rattle.upload_records.specs.Layout.{segment_name, segments_name, uploads_nam
 use Rattle.upload_records.specs.Native.{record_at, record_of, seal_of}
 use Rattle.upload_records.specs.Consistent.{IsConsistent, IsThere}
 use Rattle.account_calls.proofs.lemmas.Markers.{IsEntry, entries_are}
-use Rattle.sweep.specs.declared.gather.Source.TheVariants.{Objects, Records}
+use Rattle.leftovers.specs.declared.gathering.Source.TheVariants.{Objects, Records}
 use Rattle.sweep.specs.declared.file_counts.FileCount.{FileCount}
-use Rattle.sweep.specs.declared.used.Used.{Used}
-use Rattle.sweep.specs.Gathering.{TellsAll}
-use Rattle.sweep.specs.Leftovers.{id_in, is_listed_in, is_missing, is_open, is_orphan, is_sealed_in, is_sub_manifest_name, is_used}
-use Rattle.sweep.specs.Surveying.{id_if, is_sub_of, is_taken, orphans_beside, sealed_id_in, seals_part, TellsRecords, TellsTally}
+use Rattle.leftovers.specs.declared.used.Used.{Used}
+use Rattle.leftovers.specs.Gathering.{TellsAll}
+use Rattle.leftovers.specs.Leftovers.{id_in, is_listed_in, is_missing, is_open, is_orphan, is_sealed_in, is_sub_manifest_name, is_used}
+use Rattle.leftovers.specs.Used.{id_if, is_sub_of, is_taken, sealed_id_in, seals_part}
+use Rattle.sweep.specs.Surveying.{orphans_beside, TellsRecords, TellsTally}
 use Rattle.sweep.specs.Swept.{is_done}
-use Rattle.sweep.proofs.KeptOf.{listed_are, opened_are}
+use Rattle.leftovers.proofs.lemmas.KeptOf.{listed_are, opened_are}
 
 -- ---- names and entries
 

@@ -15,14 +15,15 @@ use Rattle.account_calls.specs.Calls.{always, by_account, Any, Asks}
 use Rattle.account_calls.specs.Listing.{TellsOf}
 use Rattle.account_calls.proofs.lemmas.Ask.{asks_fault, asks_out_of_memory, asks_told}
 use Rattle.sweep.specs.declared.counting.Surveyed.{Surveyed}
-use Rattle.sweep.specs.declared.gather.Source.TheVariants.{Objects, Records}
+use Rattle.leftovers.specs.declared.gathering.Source.TheVariants.{Objects, Records}
 use Rattle.sweep.specs.declared.file_counts.FileCount.{FileCount}
-use Rattle.sweep.specs.declared.used.Used.{Used}
-use Rattle.sweep.specs.Gathering.{InBucket, TellsAll, gather_calls}
-use Rattle.sweep.specs.Leftovers.{all_if, is_missing}
-use Rattle.sweep.specs.Surveying.{bucket_calls, is_taken, orphans_beside, orphans_calls, page_calls, records_calls, sealed_id_in, seals_part, stray_calls, HasName, HasOpened, TellsBucketShare, TellsObjects, TellsOrphans, TellsRecords, TellsStray, TellsTally}
-use Rattle.sweep.specs.Swept.{TellsThere}
-use Rattle.sweep.proofs.Readings.{asks_account}
+use Rattle.leftovers.specs.declared.used.Used.{Used}
+use Rattle.leftovers.specs.Gathering.{InBucket, TellsAll, gather_calls}
+use Rattle.leftovers.specs.Leftovers.{all_if, is_missing}
+use Rattle.sweep.specs.Surveying.{bucket_calls, orphans_beside, orphans_calls, page_calls, records_calls, stray_calls, HasName, HasOpened, TellsBucketShare, TellsObjects, TellsOrphans, TellsRecords, TellsStray, TellsTally}
+use Rattle.leftovers.specs.Used.{is_taken, sealed_id_in, seals_part}
+use Rattle.leftovers.specs.Strays.{TellsThere}
+use Rattle.leftovers.proofs.lemmas.Readings.{asks_account}
 use Rattle.sweep.proofs.BucketShares.{all_strays, orphans_told, records_told}
 use Rattle.sweep.proofs.Steps.{asks_wider, first_fault, reads_then_fault, reads_then_told}
 

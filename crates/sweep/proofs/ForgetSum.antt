@@ -12,7 +12,7 @@ use Rattle.upload_records.proofs.lemmas.Beside.{records_there}
 use Rattle.account_calls.proofs.lemmas.Ascending.{keys_ascend}
 use Rattle.account_calls.proofs.lemmas.Walk.{length-keys}
 use Rattle.sweep.specs.Aging.{aging_calls, forget_calls, names_forget_calls}
-use Rattle.sweep.specs.Sides.{Side, beside_records, beside_segments, side_of}
+use Rattle.leftovers.specs.Sides.{Side, beside_records, beside_segments, side_of}
 use Rattle.sweep.specs.Swept.{files_in}
 use Rattle.sweep.proofs.Charges.{charge, charges}
 use Rattle.sweep.proofs.NamesSwept.{is_in}

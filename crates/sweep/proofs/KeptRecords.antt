@@ -23,7 +23,7 @@ use Rattle.upload_records.proofs.lemmas.Sides.{segments_uploads}
 use Rattle.upload_records.proofs.lemmas.Beside.{bucket_stays, id_beside, same_beside, plain_beside, plain_same, records_there, file_off, files_new, sound_files}
 use Rattle.sweep.specs.Forgetting.{forget_kept}
 use Rattle.sweep.specs.Laws.{HasDone}
-use Rattle.sweep.proofs.Consistency.{bucket_as, changes_same, none_found, records_left}
+use Rattle.leftovers.proofs.lemmas.Consistency.{bucket_as, changes_same, none_found, records_left}
 
 -- ---- a record that is done
 

@@ -14,13 +14,13 @@ use Rattle.upload_records.specs.Consistent.{IsThere}
 use Rattle.account_calls.specs.declared.fault.PlanFault.{PlanFault}
 use Rattle.account_calls.specs.Calls.{by_account, Asks}
 use Rattle.sweep.specs.declared.account.Swept.{Swept}
-use Rattle.sweep.specs.declared.containers.Kind.{Kind}
-use Rattle.sweep.specs.declared.containers.Kind.TheVariants.{Records, Segments}
-use Rattle.sweep.specs.Containers.{bucket_beside, calls_by_side, folder_beside, is_side_of, name_calls, side_by, side_calls, suffix_length, HasListed, HasSide, IsSpared, SweepsName, SweepsSide}
-use Rattle.sweep.specs.Leftovers.{left_by, left_there, nothing_left}
-use Rattle.sweep.specs.Sides.{beside_records, beside_segments, is_segments_of, is_uploads_of, side_of, without_last}
+use Rattle.leftovers.specs.declared.sides.Kind.{Kind}
+use Rattle.leftovers.specs.declared.sides.Kind.TheVariants.{Records, Segments}
+use Rattle.leftovers.specs.Sides.{bucket_beside, folder_beside, is_side_of, side_by, suffix_length, beside_records, beside_segments, is_segments_of, is_uploads_of, side_of, without_last}
+use Rattle.sweep.specs.Containers.{calls_by_side, name_calls, side_calls, HasListed, HasSide, IsSpared, SweepsName, SweepsSide}
+use Rattle.leftovers.specs.Leftovers.{left_by, left_there, nothing_left}
 use Rattle.sweep.proofs.Beside.{asks_err, asks_made, swept_of}
-use Rattle.sweep.proofs.Consistency.{none_found}
+use Rattle.leftovers.proofs.lemmas.Consistency.{none_found}
 
 -- ---- the name
 

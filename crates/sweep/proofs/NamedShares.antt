@@ -15,13 +15,13 @@ use Rattle.account_calls.specs.Listing.{TellsOf}
 use Rattle.account_calls.proofs.lemmas.Ask.{asks_fault, asks_told}
 use Rattle.account_calls.proofs.lemmas.Markers.{IsKey, keys_are}
 use Rattle.sweep.specs.declared.account.SweepFault.{SweepFault}
-use Rattle.sweep.specs.declared.containers.Kind.TheVariants.{Segments}
+use Rattle.leftovers.specs.declared.sides.Kind.TheVariants.{Segments}
 use Rattle.sweep.specs.declared.counting.Surveyed.{Surveyed}
-use Rattle.sweep.specs.Containers.{bucket_beside}
+use Rattle.leftovers.specs.Sides.{bucket_beside}
 use Rattle.sweep.specs.Surveying.{calls_by, calls_of_side, plus, share_by, share_calls, share_of, share_of_side, shares_calls, shares_of, stray_calls, HasName, HasAllNames, IsFaultAt, TellsBucketShare, TellsShare, TellsShares, TellsStrayShare, TellsSum, bucket_calls}
 use Rattle.sweep.specs.Swept.{plan_of}
-use Rattle.sweep.proofs.Gathers.{at_place, take_zero}
-use Rattle.sweep.proofs.Readings.{asks_idle}
+use Rattle.leftovers.proofs.lemmas.Lists.{at_place, take_zero}
+use Rattle.leftovers.proofs.lemmas.Readings.{asks_idle}
 use Rattle.sweep.proofs.Steps.{asks_wider, reads_then_fault, reads_then_told}
 
 -- ---- by the name

@@ -23,13 +23,13 @@ use Rattle.account_calls.proofs.lemmas.Quiet.{asks_untold}
 use Rattle.sweep.specs.declared.account.Swept.{Swept}
 use Rattle.sweep.specs.declared.account.SweepFault.{SweepFault}
 use Rattle.sweep.specs.Containers.{name_calls, HasListed, SweepsName}
-use Rattle.sweep.specs.Leftovers.{Leftovers, left_by, left_in, left_there, leftovers, nothing_left}
-use Rattle.sweep.specs.Sides.{side_of}
+use Rattle.leftovers.specs.Leftovers.{Leftovers, left_by, left_in, left_there, leftovers, nothing_left}
+use Rattle.leftovers.specs.Sides.{side_of}
 use Rattle.sweep.specs.Swept.{as_plan, plan_of, removed, TellsSwept}
 use Rattle.sweep.specs.Walk.{IsTableOf, added, count_removed, names_calls, CountsNoRecords, Spares, SweepsNames, Tallies}
 use Rattle.sweep.proofs.Beside.{asks_made, asks_none, swept_of}
 use Rattle.sweep.proofs.FaultNames.{swept_err}
-use Rattle.sweep.proofs.Joined.{asks_then_by}
+use Rattle.leftovers.proofs.lemmas.Joined.{asks_then_by}
 use Rattle.sweep.proofs.SideNames.{bytes_apart}
 use Rattle.sweep.proofs.Spared.{bucket_spared, calls_same, left_same, name_spares, spares_none, spares_then}
 

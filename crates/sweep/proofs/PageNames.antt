@@ -24,9 +24,9 @@ use Rattle.account_calls.proofs.lemmas.Ascending.{keys_ascend}
 use Rattle.account_calls.proofs.lemmas.Markers.{IsEntry, entries_are}
 use Rattle.account_calls.proofs.lemmas.Removal.{all_after_none, all_behind}
 use Rattle.sweep.specs.Aging.{AreDistinct, is_in}
-use Rattle.sweep.specs.Gathering.{names_after}
+use Rattle.leftovers.specs.Gathering.{names_after}
 use Rattle.sweep.proofs.AgesMany.{AreApart, bytes_swap, or_both}
-use Rattle.sweep.proofs.PageSweep.{no_prefix}
+use Rattle.leftovers.proofs.lemmas.FileNames.{no_prefix}
 
 -- ---- names that ascend are distinct
 

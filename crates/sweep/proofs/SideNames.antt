@@ -12,8 +12,8 @@ use Rattle.gate_base.specs.Maps.{name_cmp}
 use Rattle.s3_names.specs.Bucket.{is_bucket}
 use Rattle.upload_records.specs.Layout.{gateway_name, segments_name, uploads_name}
 use Rattle.upload_records.proofs.lemmas.Sides.{bucket_segments, bucket_uploads, gateway_segments, gateway_uploads, segments_uploads}
-use Rattle.sweep.specs.Sides.{Side, beside_records, beside_segments, is_segments_of, is_uploads_of, side_of, without_last}
-use Rattle.sweep.proofs.Consistency.{none_found}
+use Rattle.leftovers.specs.Sides.{Side, beside_records, beside_segments, is_segments_of, is_uploads_of, side_of, without_last}
+use Rattle.leftovers.proofs.lemmas.Consistency.{none_found}
 
 pub bytes_apart : (n m : List ℕ) → eq_by_cmp name_cmp n m ≡ false → bytes_eq n m ≡ false
 bytes_apart n m apart = sym (is_eq-slice_cmp n m) ∙ apart

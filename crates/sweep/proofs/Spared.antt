@@ -13,14 +13,14 @@ use Rattle.upload_records.specs.Consistent.{IsThere}
 use Rattle.upload_records.proofs.lemmas.Settled.{seal_holds}
 use Rattle.account_calls.specs.Answers.{pages}
 use Rattle.sweep.specs.declared.account.Swept.{Swept}
-use Rattle.sweep.specs.declared.containers.Kind.TheVariants.{Records, Segments}
+use Rattle.leftovers.specs.declared.sides.Kind.TheVariants.{Records, Segments}
 use Rattle.sweep.specs.Containers.{calls_beside, calls_by_side, name_calls, IsSpared, SweepsName}
-use Rattle.sweep.specs.Gathering.{calls_a_file, gather_calls}
-use Rattle.sweep.specs.Leftovers.{all_if, id_in, is_listed_in, is_open, is_orphan, is_sealed_in, is_used, left_by, left_in, left_there, nothing_left, one_if}
-use Rattle.sweep.specs.Sides.{Side, beside_records, beside_segments, side_of}
-use Rattle.sweep.specs.Sweeping.{file_calls}
+use Rattle.leftovers.specs.Gathering.{calls_a_file, gather_calls}
+use Rattle.leftovers.specs.Leftovers.{all_if, id_in, is_listed_in, is_open, is_orphan, is_sealed_in, is_used, left_by, left_in, left_there, nothing_left, one_if}
+use Rattle.leftovers.specs.Sides.{Side, beside_records, beside_segments, side_of}
+use Rattle.leftovers.specs.Sweeping.{file_calls}
 use Rattle.sweep.specs.Walk.{Spares}
-use Rattle.sweep.proofs.Removals.{filter_alike}
+use Rattle.leftovers.proofs.lemmas.Lists.{filter_alike}
 use Rattle.sweep.proofs.SideNames.{bucket_no_side, bytes_apart, gateway_no_side, records_side, segments_side, uploads_have_side}
 
 pub spares_none : (tree : SwiftAccount) → Spares tree tree

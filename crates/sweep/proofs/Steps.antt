@@ -9,7 +9,7 @@ use Rattle.account_calls.specs.declared.fault.PlanFault.{PlanFault}
 use Rattle.account_calls.specs.Calls.{by_account, Asks, Met}
 use Rattle.account_calls.specs.Listing.{TellsOf}
 use Rattle.account_calls.proofs.lemmas.Ask.{asks_fault, asks_told}
-use Rattle.sweep.proofs.Joined.{asks_then_by}
+use Rattle.leftovers.proofs.lemmas.Joined.{asks_then_by}
 
 -- a wider bound, and more that is given
 pub asks_wider : {T : Type 0} {n most : ℕ} {a b : History} {given given' : SwiftAccount → Type 0} {P : SwiftAccount → SwiftAccount → T → Type 0} {result : Result T PlanFault}

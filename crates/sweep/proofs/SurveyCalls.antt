@@ -13,9 +13,8 @@ use Rattle.upload_records.specs.Layout.{segments_name, uploads_name}
 use Rattle.upload_records.proofs.lemmas.Sides.{bucket_segments, bucket_uploads}
 use Rattle.account_calls.specs.Answers.{pages}
 use Rattle.account_calls.proofs.lemmas.Walk.{length-keys}
-use Rattle.sweep.specs.declared.containers.Kind.TheVariants.{Segments}
-use Rattle.sweep.specs.Containers.{bucket_beside}
-use Rattle.sweep.specs.Sides.{without_last}
+use Rattle.leftovers.specs.declared.sides.Kind.TheVariants.{Segments}
+use Rattle.leftovers.specs.Sides.{bucket_beside, without_last}
 use Rattle.sweep.specs.Surveying.{calls_by, calls_of_side, share_calls, shares_calls}
 use Rattle.sweep.specs.Swept.{account_calls, files_in}
 use Rattle.sweep.proofs.Named.{told_side}

@@ -15,12 +15,11 @@ use Rattle.upload_records.specs.Layout.{segments_name, uploads_name}
 use Rattle.upload_records.specs.Native.{seal_of}
 use Rattle.upload_records.proofs.lemmas.Sides.{bucket_segments, uploads_segments}
 use Rattle.account_calls.proofs.lemmas.Markers.{IsKey, keys_are}
-use Rattle.sweep.specs.declared.containers.Kind.TheVariants.{Records, Segments}
+use Rattle.leftovers.specs.declared.sides.Kind.TheVariants.{Records, Segments}
 use Rattle.sweep.specs.declared.counting.Surveyed.{Surveyed}
-use Rattle.sweep.specs.Containers.{bucket_beside, is_side_of}
+use Rattle.leftovers.specs.Sides.{bucket_beside, is_side_of, Side, beside_records, beside_segments, without_last}
 use Rattle.sweep.specs.Forgetting.{buckets_in, count_records}
-use Rattle.sweep.specs.Leftovers.{all_if, count_files, is_open, is_orphan, left_by, left_in, left_there, leftovers}
-use Rattle.sweep.specs.Sides.{Side, beside_records, beside_segments, without_last}
+use Rattle.leftovers.specs.Leftovers.{all_if, count_files, is_open, is_orphan, left_by, left_in, left_there, leftovers}
 use Rattle.sweep.specs.Surveying.{orphans_beside, share_by, share_of, share_of_side, shares_of, stray_orphans}
 use Rattle.sweep.specs.Swept.{is_done, survey_of}
 use Rattle.sweep.proofs.Named.{side_none, side_records, side_segments, told_side}

@@ -14,7 +14,7 @@ use Rattle.sweep.specs.declared.account.SweepFault.{SweepFault}
 use Rattle.sweep.specs.declared.counting.Surveyed.{Surveyed}
 use Rattle.sweep.specs.Surveying.{shares_calls, HasAllNames, TellsSealed, TellsShares}
 use Rattle.sweep.specs.Swept.{account_calls, plan_of, SurveysAccount, TellsSurvey}
-use Rattle.sweep.proofs.Readings.{asks_account}
+use Rattle.leftovers.proofs.lemmas.Readings.{asks_account}
 use Rattle.sweep.proofs.Steps.{first_fault, reads_then_fault, reads_then_told}
 use Rattle.sweep.proofs.SurveyCalls.{survey_paid}
 use Rattle.sweep.proofs.SurveySums.{survey_is}

@@ -24,11 +24,12 @@ use Rattle.account_calls.proofs.lemmas.Idle.{goes_none, goes_trans}
 use Rattle.account_calls.proofs.lemmas.Quiet.{told_here}
 use Rattle.account_calls.proofs.lemmas.Walk.{idles_none, idles_trans, cause_after, keeps_after}
 use Rattle.sweep.specs.declared.file_counts.FileCount.{FileCount}
-use Rattle.sweep.specs.Gathering.{names_after}
+use Rattle.leftovers.specs.Gathering.{names_after}
 use Rattle.sweep.specs.Surveying.{no_tally, one_more, page_calls, TalliesFiles, TalliesNext, TalliesPage, TellsTallied, TellsTally}
-use Rattle.sweep.proofs.Counted.{filter_append}
-use Rattle.sweep.proofs.Gathers.{all_names, halves, names_of, take_zero}
-use Rattle.sweep.proofs.Turned.{turned, ended}
+use Rattle.leftovers.proofs.lemmas.Counted.{filter_append}
+use Rattle.leftovers.proofs.lemmas.FileNames.{all_names, names_of}
+use Rattle.leftovers.proofs.lemmas.Lists.{halves, take_zero}
+use Rattle.leftovers.proofs.lemmas.Turned.{turned, ended}
 
 -- ---- item by item
 

@@ -29,9 +29,9 @@ use Rattle.sweep.specs.declared.forget.Fate.{Fate}
 use Rattle.sweep.specs.declared.forget.Fate.TheVariants.{Left, Forgotten, Migrated}
 use Rattle.sweep.specs.declared.forget.Aged.{Aged}
 use Rattle.sweep.specs.Forgetting.{AreDated, is_undated_since, without_kept}
-use Rattle.sweep.specs.Gathering.{names_after}
-use Rattle.sweep.specs.Segments.{HasSettled}
-use Rattle.sweep.specs.Sides.{is_uploads_of}
+use Rattle.leftovers.specs.Gathering.{names_after}
+use Rattle.leftovers.specs.Segments.{HasSettled}
+use Rattle.leftovers.specs.Sides.{is_uploads_of}
 use Rattle.sweep.specs.Swept.{TellsSwept, files_in}
 use Rattle.sweep.specs.declared.account.Swept.{Swept}
 

@@ -1,28 +1,19 @@
 -- One container beside a bucket is swept, by its name. Source: this profile.
-use Rattle.std.specs.Prelude.{◌≡◌, ◌+◌, ℕ, Bool, true, false, bytes_eq, cond, is_some, List, Option, None, Some}
+use Rattle.std.specs.Prelude.{◌≡◌, ◌+◌, ℕ, Bool, true, false, bytes_eq, is_some, List, Option, None, Some}
 use Rattle.std.specs.FinMap.{get}
 use Rattle.gate_base.specs.Maps.{Names}
 use Rattle.s3_names.specs.Bucket.{is_bucket}
 use Rattle.swift_calls.specs.Account.{SwiftAccount}
-use Rattle.upload_records.specs.Layout.{uploads_name, segments_name}
 use Rattle.upload_records.specs.Native.{IsSettled}
 use Rattle.upload_records.specs.Consistent.{IsThere}
 use Rattle.sweep.specs.declared.account.Swept.{Swept}
-use Rattle.sweep.specs.declared.containers.Kind.{Kind}
-use Rattle.sweep.specs.declared.containers.Kind.TheVariants.{Records, Segments}
-use Rattle.sweep.specs.Leftovers.{Leftovers, left_by, left_in, left_there, nothing_left}
-use Rattle.sweep.specs.Segments.{segments_calls}
-use Rattle.sweep.specs.Sides.{Side, beside_records, beside_segments, is_segments_of, is_uploads_of, side_of, without_last}
-use Rattle.sweep.specs.Swept.{clear_calls, removed}
-
--- the container beside a bucket
-abbrev pub folder_beside : Kind → List ℕ → List ℕ
-folder_beside Records bucket = uploads_name bucket
-folder_beside Segments bucket = segments_name bucket
-
-abbrev pub side_by : Kind → List ℕ → Side
-side_by Records bucket = beside_records bucket
-side_by Segments bucket = beside_segments bucket
+use Rattle.leftovers.specs.declared.sides.Kind.{Kind}
+use Rattle.leftovers.specs.declared.sides.Kind.TheVariants.{Records, Segments}
+use Rattle.leftovers.specs.Leftovers.{Leftovers, left_by, left_in, left_there, nothing_left}
+use Rattle.leftovers.specs.Segments.{segments_calls}
+use Rattle.leftovers.specs.Sides.{Side, beside_records, beside_segments, folder_beside, side_by, side_of}
+use Rattle.leftovers.specs.Strays.{clear_calls}
+use Rattle.sweep.specs.Swept.{removed}
 
 -- what is left over in it
 abbrev pub left_beside : SwiftAccount → Kind → List ℕ → Leftovers
@@ -59,19 +50,6 @@ abbrev pub side_calls : SwiftAccount → Kind → List ℕ → ℕ
 side_calls tree kind bucket = 1 + calls_beside (is_some (get tree bucket)) tree kind bucket
 
 -- ---- a container by its name
-
--- how many bytes stand behind the bucket's name in it
-abbrev pub suffix_length : Kind → ℕ
-suffix_length Records = 8
-suffix_length Segments = 9
-
-abbrev pub is_side_of : Kind → List ℕ → List ℕ → Bool
-is_side_of Records bucket name = is_uploads_of bucket name
-is_side_of Segments bucket name = is_segments_of bucket name
-
--- the bucket beside which a container of this name stands, if it is one of these
-abbrev pub bucket_beside : Kind → List ℕ → Option (List ℕ)
-bucket_beside kind name = cond (is_side_of kind (without_last (suffix_length kind) name) name) (Some (without_last (suffix_length kind) name)) None
 
 -- a container is there, on a settled account
 pub record HasContainer (name : List ℕ) (tree : SwiftAccount) : Type 0 where

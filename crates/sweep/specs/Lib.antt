@@ -1,13 +1,7 @@
 pub mod Aging
 pub mod Containers
 pub mod Forgetting
-pub mod Gathering
-pub mod Kept
 pub mod Laws
-pub mod Leftovers
-pub mod Segments
-pub mod Sides
 pub mod Surveying
-pub mod Sweeping
 pub mod Swept
 pub mod Walk

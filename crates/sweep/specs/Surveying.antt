@@ -1,17 +1,15 @@
 -- What stands on an account is counted, container by container. Source: this profile.
-use Rattle.std.specs.Prelude.{◌≡◌, ◌≤◌, ◌+◌, ◌⊎◌, ℕ, Bool, true, false, not, ◌&&◌, ◌||◌, bytes_eq, List, length, sum_by, Option, None, Some, Result, Ok, Err}
-use Rattle.std.specs.List.{filter, list_any}
+use Rattle.std.specs.Prelude.{◌≡◌, ◌≤◌, ◌+◌, ◌⊎◌, ℕ, Bool, true, false, not, List, length, sum_by, Option, None, Some, Result, Ok, Err}
+use Rattle.std.specs.List.{filter}
 use Rattle.std.specs.FinMap.{keys, len}
 use Rattle.gate_base.specs.Maps.{Names}
 use Rattle.s3_names.specs.Bucket.{is_bucket}
-use Rattle.s3_names.specs.Id.{id_digits}
 use Rattle.swift_calls.specs.Account.{SwiftAccount, files}
 use Rattle.swift_calls.specs.declared.calls.SwiftReply.{SwiftReply}
 use Rattle.swift_calls.specs.declared.calls.SwiftReply.TheVariants.{Bytes, NotFound}
 use Rattle.upload_texts.specs.Sealed.{read_sealed}
 use Rattle.upload_texts.specs.declared.sealed.Sealed.{Sealed}
-use Rattle.upload_texts.specs.declared.sealed.SealedPart.{SealedPart}
-use Rattle.upload_records.specs.Layout.{segment_name, segments_name, uploads_name}
+use Rattle.upload_records.specs.Layout.{segments_name, uploads_name}
 use Rattle.upload_records.specs.Native.{seal_of}
 use Rattle.upload_records.specs.Consistent.{IsThere}
 use Rattle.account_calls.specs.declared.fault.PlanFault.{PlanFault}
@@ -21,16 +19,14 @@ use Rattle.account_calls.specs.Interpret.{known}
 use Rattle.list_pages.specs.declared.page.TheConstants.{MOST_NAMES}
 use Rattle.sweep.specs.declared.account.SweepFault.{SweepFault}
 use Rattle.sweep.specs.declared.account.SweepFault.TheVariants as why
-use Rattle.sweep.specs.declared.containers.Kind.TheVariants.{Segments}
+use Rattle.leftovers.specs.declared.sides.Kind.TheVariants.{Segments}
 use Rattle.sweep.specs.declared.counting.Surveyed.{Surveyed}
-use Rattle.sweep.specs.declared.gather.Source.TheVariants.{Records}
+use Rattle.leftovers.specs.declared.gathering.Source.TheVariants.{Records}
 use Rattle.sweep.specs.declared.file_counts.FileCount.{FileCount}
-use Rattle.sweep.specs.declared.used.Used.{Used}
-use Rattle.sweep.specs.Containers.{bucket_beside}
+use Rattle.leftovers.specs.Sides.{bucket_beside}
 use Rattle.sweep.specs.Forgetting.{count_records}
-use Rattle.sweep.specs.Gathering.{TellsAll, gather_calls, names_after}
-use Rattle.sweep.specs.Kept.{keeps}
-use Rattle.sweep.specs.Leftovers.{all_if, count_files, id_in, is_missing, is_open, is_orphan, is_sub_manifest_name}
+use Rattle.leftovers.specs.Gathering.{TellsAll, gather_calls, names_after}
+use Rattle.leftovers.specs.Leftovers.{all_if, count_files, is_missing, is_open, is_orphan}
 use Rattle.sweep.specs.Swept.{is_done}
 
 -- ---- what is sealed
@@ -48,31 +44,6 @@ sealed_due _ = Err plan.Inconsistent
 -- the completion that is sealed on the account, if one is
 abbrev pub TellsSealed : SwiftAccount → Option Sealed → Type 0
 TellsSealed tree told = told ≡ seal_of tree
-
--- a completion that is sealed in the bucket lists the part of this name
-abbrev pub seals_part : Option Sealed → List ℕ → List ℕ → Bool
-seals_part None bucket name = false
-seals_part (Some s) bucket name = bytes_eq s.bucket bucket && list_any (λ (p : SealedPart). bytes_eq (segment_name (id_digits s.id) p.number) name) s.list
-
--- the text of its id
-abbrev pub id_if : Bool → Sealed → Option (List ℕ)
-id_if true s = Some (id_digits s.id)
-id_if false s = None
-
-abbrev pub sealed_id_in : Option Sealed → List ℕ → Option (List ℕ)
-sealed_id_in None bucket = None
-sealed_id_in (Some s) bucket = id_if (bytes_eq s.bucket bucket) s
-
--- ---- which files of a container are used
-
--- a name is that of a sub-manifest of this id
-abbrev pub is_sub_of : Option (List ℕ) → List ℕ → Bool
-is_sub_of None name = false
-is_sub_of (Some id) name = is_sub_manifest_name name && bytes_eq (id_in name) id
-
--- a file of this name is used: it is kept, or it is a sub-manifest of what is sealed
-abbrev pub is_taken : Used → List ℕ → Bool
-is_taken used name = keeps used.kept name || is_sub_of used.sealed name
 
 -- ---- how many are, and how many aren't
 

@@ -1,15 +1,13 @@
 -- A sweep of a whole account: container by container. Source: this profile.
-use Rattle.std.specs.Prelude.{◌≡◌, ◌≤◌, ◌+◌, ◌*◌, ℕ, Bool, true, false, bytes_eq, IsTrue, List, length, sum_by, is_some, Option, None, Some, Result, Ok, Err}
-use Rattle.std.specs.FinMap.{entries, get, keys, len}
+use Rattle.std.specs.Prelude.{◌≡◌, ◌≤◌, ◌+◌, ◌*◌, ℕ, Bool, true, false, IsTrue, length, sum_by, is_some, Option, None, Some, Result, Ok, Err}
+use Rattle.std.specs.FinMap.{keys, len}
 use Rattle.swift_calls.specs.Account.{SwiftAccount, files}
 use Rattle.swift_calls.specs.History.{History, present}
-use Rattle.swift_calls.specs.declared.calls.SwiftReply.{SwiftReply}
-use Rattle.swift_calls.specs.declared.calls.SwiftReply.TheVariants.{Gone, NotFound, Readers}
 use Rattle.upload_texts.specs.declared.record.Record.{Record}
 use Rattle.upload_texts.specs.declared.record.Record.TheVariants.{Open, Done}
 use Rattle.upload_records.specs.Layout.{uploads_name}
 use Rattle.upload_records.specs.Native.{IsSettled, s3_state, seal_of}
-use Rattle.upload_records.specs.Consistent.{IsBeside, IsConsistent, IsThere}
+use Rattle.upload_records.specs.Consistent.{IsConsistent}
 use Rattle.account_calls.specs.declared.fault.PlanFault.{PlanFault}
 use Rattle.account_calls.specs.declared.fault.PlanFault.TheVariants as fault
 use Rattle.account_calls.specs.Calls.{by_account, Any, Asks, Grows, Met}
@@ -17,54 +15,11 @@ use Rattle.account_calls.specs.Fault.{CausesFault}
 use Rattle.account_calls.specs.Listing.{TellsOf}
 use Rattle.account_calls.specs.Stutters.{LastFailed}
 use Rattle.sweep.specs.Forgetting.{AreDated, buckets_in, count_records, all_old, forgotten, undated_left}
-use Rattle.sweep.specs.Leftovers.{IsClean, Leftovers, is_open, leftovers}
-use Rattle.sweep.specs.Sweeping.{file_calls}
+use Rattle.leftovers.specs.Leftovers.{IsClean, Leftovers, is_open, leftovers}
 use Rattle.sweep.specs.declared.account.SweepFault.{SweepFault}
 use Rattle.sweep.specs.declared.account.SweepFault.TheVariants as why
 use Rattle.sweep.specs.declared.account.Swept.{Swept}
 use Rattle.sweep.specs.declared.counting.Surveyed.{Surveyed}
-
--- ---- one container beside a bucket
-
--- HEAD of a container: whether it is there
-abbrev pub there_due : SwiftReply → Result Bool PlanFault
-there_due (Readers readers created) = Ok true
-there_due NotFound = Ok false
-there_due _ = Err fault.Inconsistent
-
-abbrev pub TellsThere : List ℕ → SwiftAccount → Bool → Type 0
-TellsThere name tree told = told ≡ is_some (get tree name)
-
--- DELETE of a container that is there without a file
-abbrev pub removed_due : SwiftReply → Result (Unit {0}) PlanFault
-removed_due Gone = Ok tt
-removed_due _ = Err fault.Inconsistent
-
--- a container beside a bucket that is missing, on a settled account
-pub record IsStray (folder bucket : List ℕ) (tree : SwiftAccount) : Type 0 where
-  pub settled : IsSettled tree
-  pub there : IsThere tree folder
-  pub beside : IsBeside folder bucket
-  pub missing : get tree bucket ≡ None
-
--- and no file is left in it
-pub record IsBareStray (folder bucket : List ℕ) (tree : SwiftAccount) : Type 0 where
-  pub stray : IsStray folder bucket tree
-  pub bare : len (files tree folder) ≡ 0
-
--- the container is gone, and no other one changed
-pub record Removes (folder : List ℕ) (old new : SwiftAccount) (done : Unit {0}) : Type 0 where
-  pub gone : get new folder ≡ None
-  pub others : (name : List ℕ) → bytes_eq name folder ≡ false → get new name ≡ get old name
-  pub settled : IsSettled new
-
--- and so many files with it
-pub record ClearsSide (folder : List ℕ) (old new : SwiftAccount) (count : ℕ) : Type 0 where
-  pub counted : count ≡ length (entries (files old folder))
-  pub removes : Removes folder old new tt
-
-abbrev pub clear_calls : SwiftAccount → List ℕ → ℕ
-clear_calls tree folder = file_calls tree folder + 1
 
 -- ---- the account
 
@@ -119,12 +74,14 @@ pub record TellsForgotten (before : ℕ) (h : History) (p q : ℕ) (swept : Swep
   pub counted : swept.forgotten ≡ length (all_old before (s3_state (h.account_at p)))
   pub migrated : swept.migrated ≡ undated_left before (h.account_at p)
 
+-- what a sweep leaves, by how it ended
 abbrev pub ForgetsBy : ℕ → History → ℕ → ℕ → Result Swept PlanFault → Type 0
 ForgetsBy before h p q (Ok swept) = Forgets before h p q × (h.faults_at q ≡ h.faults_at p) × TellsForgotten before h p q swept
 ForgetsBy before h p q (Err fault.Failed) = Forgets before h p q × LastFailed h p q
 ForgetsBy before h p q (Err fault.Memory) = Forgets before h p q × (h.faults_at q ≡ h.faults_at p)
 ForgetsBy before h p q (Err fault.Inconsistent) = ⊥
 
+-- a sweep that forgets: how many calls it makes, the causes of its faults, and what it leaves of an account that was settled
 pub record SweepsBefore (before : ℕ) (old new : History) (result : Result Swept SweepFault) : Type 0 where
   pub grows : Grows (by_account (account_calls (present old))) IsSettled old new
   pub cause : CausesFault old.faults new.faults (as_plan result)

@@ -8,7 +8,7 @@ use Rattle.swift_calls.specs.Account.{SwiftAccount}
 use Rattle.account_calls.specs.declared.fault.PlanFault.{PlanFault}
 use Rattle.account_calls.specs.declared.fault.PlanFault.TheVariants as fault
 use Rattle.sweep.specs.Containers.{name_calls, IsSpared}
-use Rattle.sweep.specs.Sides.{side_of}
+use Rattle.leftovers.specs.Sides.{side_of}
 use Rattle.sweep.specs.Swept.{plan_of, TellsSwept}
 use Rattle.sweep.specs.declared.account.SweepFault.{SweepFault}
 use Rattle.sweep.specs.declared.account.SweepFault.TheVariants as why

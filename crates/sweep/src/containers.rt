@@ -4,32 +4,20 @@ ghost use Rattle.std.specs.FinMap.{get};
 ghost use Rattle.s3_names.specs.Bucket.{is_bucket};
 ghost use Rattle.swift_calls.specs.History.{present};
 ghost use Rattle.account_calls.specs.Calls.{by_account, Asks};
-ghost use Rattle.sweep.specs.Containers.{bucket_beside, calls_there, folder_beside, name_calls, side_calls, suffix_length, HasListed, HasSide, SweepsName, SweepsSide};
-ghost use Rattle.sweep.specs.declared.containers.Kind.TheVariants.{Records, Segments};
-ghost use Rattle.sweep.specs.Sides.{without_last};
-ghost use Rattle.sweep.specs.Segments.{HasSettled};
-ghost use Rattle.sweep.specs.Swept.{clear_calls, IsStray};
+ghost use Rattle.leftovers.specs.Sides.{bucket_beside, folder_beside};
+ghost use Rattle.sweep.specs.Containers.{calls_there, name_calls, side_calls, HasListed, HasSide, SweepsName, SweepsSide};
+ghost use Rattle.leftovers.specs.declared.sides.Kind.TheVariants.{Records, Segments};
+ghost use Rattle.leftovers.specs.Segments.{HasSettled};
+ghost use Rattle.leftovers.specs.Strays.{clear_calls, IsStray};
 ghost use Rattle.sweep.specs.Walk.{Tallies};
 
 use crate::account::Swept;
-use crate::segments::sweep_segments;
-use crate::stray::{is_there, sweep_stray};
 use account_calls::PlanFault;
-use gate_base::{Bytes, Memory};
+use gate_base::Bytes;
+use leftovers::{Kind, bucket_beside, is_there, sweep_segments, sweep_stray};
 use name_table::Table;
-use s3_names::is_bucket;
 use std::alloc::Global;
 use swift_calls::Swift;
-use upload_records::{segments_container, uploads_container};
-
-/// Which of the two containers beside a bucket one is.
-#[derive(Clone, Copy, Debug, PartialEq, Eq)]
-pub(crate) enum Kind {
-    /// That of the records of its uploads.
-    Records,
-    /// That of their segments.
-    Segments,
-}
 
 /// Sweeps the segments beside a bucket that is there: its orphans go.
 fn sweep_orphans<W: Swift>(alloc: Global, store: &mut W, bucket: &Bytes) -> Result<Swept, PlanFault>
@@ -139,52 +127,6 @@ pub(crate) fn sweep_beside<W: Swift>(
         return Err(PlanFault::Inconsistent);
     }
     sweep_missing(alloc, store, bucket, folder, kind)
-}
-
-/// A name without its last bytes.
-fn without_last(name: &[u8], n: usize) -> &[u8]
-    ensures { result.now ≡ without_last n name.now }
-{
-    if name.len() < n {
-        return &name[..0];
-    }
-    &name[..name.len() - n]
-}
-
-fn suffix_length(kind: Kind) -> usize
-    ensures { result ≡ suffix_length kind }
-{
-    match kind {
-        Kind::Records => 8,
-        Kind::Segments => 9,
-    }
-}
-
-/// The name of a container beside a bucket.
-fn folder_beside(alloc: Global, bucket: &[u8], kind: Kind) -> Result<Bytes, Memory>
-    requires { is_bucket bucket.now ≡ true }
-    ensures { IfOk result (λ folder. folder ≡ folder_beside kind bucket.now) }
-{
-    match kind {
-        Kind::Records => uploads_container(alloc, bucket),
-        Kind::Segments => segments_container(alloc, bucket),
-    }
-}
-
-/// The bucket beside which a container of this name stands, if it is one of these.
-fn bucket_beside(alloc: Global, name: &Bytes, kind: Kind) -> Result<Option<Bytes>, Memory>
-    ensures { IfOk result (λ told. told ≡ bucket_beside kind name.now) }
-{
-    let bucket = without_last(name.as_slice(), suffix_length(kind));
-    if !is_bucket(bucket) {
-        return Ok(None);
-    }
-    let folder = folder_beside(alloc, bucket, kind)?;
-    if name.as_slice() != folder.as_slice() {
-        return Ok(None);
-    }
-    let told = Bytes::from_slice(alloc, bucket)?;
-    Ok(Some(told))
 }
 
 /// Sweeps a container whose name is not that of records beside a bucket.

@@ -6,12 +6,12 @@ ghost use Rattle.swift_calls.specs.Limits.{IsMarker};
 ghost use Rattle.swift_calls.specs.Step.{IsContainerName};
 ghost use Rattle.account_calls.specs.Calls.{always, by_account, Any, Asks};
 ghost use Rattle.account_calls.specs.Listing.{TellsOf};
-ghost use Rattle.sweep.specs.Surveying.{is_taken, one_more, page_calls, TalliesFiles, TellsTallied, TellsTally};
+ghost use Rattle.leftovers.specs.Used.{is_taken};
+ghost use Rattle.sweep.specs.Surveying.{one_more, page_calls, TalliesFiles, TellsTallied, TellsTally};
 
-use crate::files::file_page;
-use crate::used::Used;
 use account_calls::{PlanFault, next_marker};
 use gate_base::{Bytes, Memory};
+use leftovers::{Used, file_page};
 use std::alloc::Global;
 use swift_calls::{NameItem, Swift};
 

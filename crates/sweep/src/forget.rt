@@ -17,8 +17,7 @@ ghost use Rattle.sweep.specs.Swept.{as_plan, plan_of};
 ghost use Rattle.sweep.specs.Walk.{ComesOf};
 
 use crate::account::SweepFault;
-use crate::files::ask_store;
-use account_calls::{PlanFault, interpret_file_delete, interpret_put_with_etag};
+use account_calls::{PlanFault, ask, interpret_file_delete, interpret_put_with_etag};
 use gate_base::{Bytes, Copying, List, Memory, drop};
 use s3_machine::body_etag;
 use std::alloc::Global;
@@ -71,7 +70,7 @@ fn get_aging_record<W: Swift>(
         name,
         range: None,
     };
-    let reply = ask_store(store, request)?;
+    let reply = ask(store, request)?;
     aging_record_in_reply(alloc, &reply)
 }
 
@@ -149,7 +148,7 @@ fn delete_old_record<W: Swift>(store: &mut W, folder: &Bytes, name: &Bytes) -> R
 {
     let container = folder.copy()?;
     let name = name.copy()?;
-    let reply = ask_store(store, SwiftRequest::DeleteObject { container, name })?;
+    let reply = ask(store, SwiftRequest::DeleteObject { container, name })?;
     interpret_file_delete(&reply)
 }
 
@@ -236,7 +235,7 @@ fn put_dated_record<W: Swift>(
     let text = dated_record_text(alloc, told)?;
     let etag = body_etag(text.as_slice());
     let request = dated_record_request(alloc, folder, name, text)?;
-    let reply = ask_store(store, request)?;
+    let reply = ask(store, request)?;
     interpret_put_with_etag(&reply, &etag)
 }
 

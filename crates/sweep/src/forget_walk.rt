@@ -13,15 +13,15 @@ ghost use Rattle.account_calls.specs.FilePages.{TellsFiles};
 ghost use Rattle.account_calls.specs.Listing.{HasNames, TellsOf};
 ghost use Rattle.sweep.specs.Aging.{AreDistinct, before_calls, names_forget_calls, old_among, old_beside, old_of, page_of, Forgetting, HasFiles, MakesForgetCalls, PaysForgetting, TellsAged, TellsAgedPage, TellsAllAged, TellsBeside, TellsSweptBefore};
 ghost use Rattle.sweep.specs.Containers.{HasContainer};
-ghost use Rattle.sweep.specs.Segments.{HasSettled};
+ghost use Rattle.leftovers.specs.Segments.{HasSettled};
 ghost use Rattle.sweep.specs.Swept.{as_plan};
 
 use crate::account::{SweepFault, Swept};
-use crate::files::file_page;
 use crate::forget::{Aged, forget_named_record};
 use crate::walk::{fault_at, sweep_names};
 use account_calls::next_marker;
 use gate_base::{Bytes, List};
+use leftovers::file_page;
 use s3_names::is_bucket;
 use std::alloc::Global;
 use swift_calls::{NameItem, Swift};

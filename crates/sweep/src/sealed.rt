@@ -7,8 +7,7 @@ ghost use Rattle.account_calls.specs.Listing.{TellsOf};
 ghost use Rattle.account_calls.specs.declared.fault.PlanFault.TheVariants as fault;
 ghost use Rattle.sweep.specs.Surveying.{sealed_due, TellsSealed};
 
-use crate::files::ask_store;
-use account_calls::PlanFault;
+use account_calls::{PlanFault, ask};
 use std::alloc::Global;
 use swift_calls::{Swift, SwiftReply, SwiftRequest};
 use upload_records::{gateway_container, sealed_name};
@@ -32,7 +31,7 @@ pub(crate) fn get_sealed<W: Swift>(
         name,
         range: None,
     };
-    let reply = ask_store(store, request)?;
+    let reply = ask(store, request)?;
     sealed_in_reply(alloc, &reply)
 }
 

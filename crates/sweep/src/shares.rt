@@ -1,25 +1,19 @@
 //! What one container has of a survey, by its name.
-ghost use Rattle.std.specs.Prelude.{◌≡◌, true, false, IfOk, IfSome};
+ghost use Rattle.std.specs.Prelude.{◌≡◌, true, false, IfSome};
 ghost use Rattle.s3_names.specs.Bucket.{is_bucket};
 ghost use Rattle.swift_calls.specs.History.{present};
 ghost use Rattle.upload_texts.specs.Sealed.{has_sealed_text};
 ghost use Rattle.upload_records.specs.Layout.{segments_name};
 ghost use Rattle.account_calls.specs.Calls.{by_account, Any, Asks};
 ghost use Rattle.account_calls.specs.Listing.{TellsOf};
-ghost use Rattle.sweep.specs.Containers.{bucket_beside};
-ghost use Rattle.sweep.specs.Gathering.{InBucket};
-ghost use Rattle.sweep.specs.Sides.{without_last};
+ghost use Rattle.leftovers.specs.Gathering.{InBucket};
 ghost use Rattle.sweep.specs.Surveying.{bucket_calls, orphans_calls, page_calls, records_calls, share_calls, stray_calls, HasName, HasOpened, TellsBucketShare, TellsObjects, TellsOrphans, TellsRecords, TellsShare, TellsStray, TellsStrayShare};
-ghost use Rattle.sweep.specs.declared.containers.Kind.TheVariants.{Segments};
 
 use crate::counting::Surveyed;
 use crate::file_counts::{FileCount, tally_files};
-use crate::gather::{Source, gather};
-use crate::kept::Kept;
-use crate::stray::is_there;
-use crate::used::{Used, add_sealed};
 use account_calls::PlanFault;
-use gate_base::{Bytes, Memory};
+use gate_base::Bytes;
+use leftovers::{Kept, Kind, Source, Used, add_sealed, bucket_beside, gather, is_there};
 use name_table::Table;
 use s3_names::is_bucket;
 use std::alloc::Global;
@@ -128,32 +122,6 @@ fn count_strays<W: Swift>(
     Ok(tally.unused)
 }
 
-/// The bucket beside which a container of this name stands, if it is one of segments.
-fn bucket_of_segments(alloc: Global, name: &Bytes) -> Result<Option<Bytes>, Memory>
-    ensures { IfOk result (λ told. told ≡ bucket_beside Segments name.now) }
-{
-    let bucket = without_suffix(name.as_slice());
-    if !is_bucket(bucket) {
-        return Ok(None);
-    }
-    let folder = segments_container(alloc, bucket)?;
-    if name.as_slice() != folder.as_slice() {
-        return Ok(None);
-    }
-    let told = Bytes::from_slice(alloc, bucket)?;
-    Ok(Some(told))
-}
-
-/// A name without as many bytes as `+segments` has.
-fn without_suffix(name: &[u8]) -> &[u8]
-    ensures { result.now ≡ without_last 9 name.now }
-{
-    if name.len() < 9 {
-        return &name[..0];
-    }
-    &name[..name.len() - 9]
-}
-
 /// What segments have of a survey whose bucket may be missing.
 fn survey_strays<W: Swift>(
     alloc: Global,
@@ -183,7 +151,7 @@ fn survey_side<W: Swift>(alloc: Global, store: &mut W, name: &Bytes) -> Result<S
     ensures asks { Asks (by_account (share_calls (present (W.history store.old)) name.now))
         (W.history store.old) (W.history store.new) Any (TellsOf (TellsShare name.now)) result }
 {
-    match bucket_of_segments(alloc, name)? {
+    match bucket_beside(alloc, name, Kind::Segments)? {
         Some(bucket) => survey_strays(alloc, store, &bucket, name),
         None => Ok(Surveyed {
             buckets: 0,

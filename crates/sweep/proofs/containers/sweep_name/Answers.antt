@@ -1,6 +1,6 @@
 use Rattle.std.proofs.Common.{sym, ◌∙◌}
 use Rattle.account_calls.proofs.lemmas.One.{not_asked}
-use Rattle.sweep.specs.declared.containers.Kind.TheVariants.{Records}
+use Rattle.leftovers.specs.declared.sides.Kind.TheVariants.{Records}
 use Rattle.sweep.proofs.Named.{asks_named, side_records, told_side}
 use Rattle.sweep.proofs.containers.sweep_name.Goals as goal
 

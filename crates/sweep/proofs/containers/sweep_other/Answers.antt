@@ -1,6 +1,6 @@
 use Rattle.std.proofs.Common.{sym, ◌∙◌}
 use Rattle.account_calls.proofs.lemmas.One.{not_asked}
-use Rattle.sweep.specs.declared.containers.Kind.TheVariants.{Segments}
+use Rattle.leftovers.specs.declared.sides.Kind.TheVariants.{Segments}
 use Rattle.sweep.proofs.Beside.{asks_none}
 use Rattle.sweep.proofs.Named.{asks_named, none_beside, side_none, side_segments, told_side}
 use Rattle.sweep.proofs.Tally.{tallies_none}

@@ -1,5 +1,5 @@
 use Rattle.std.proofs.Common.{sym, ap, ◌∙◌, arith}
-use Rattle.sweep.specs.Surveying.{is_taken}
+use Rattle.leftovers.specs.Used.{is_taken}
 use Rattle.sweep.proofs.Tallied.{tallying_all, tallying_more, tallying_none}
 use Rattle.sweep.proofs.file_counts.add_files.Goals as goal
 

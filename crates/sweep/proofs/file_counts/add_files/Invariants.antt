@@ -1,4 +1,4 @@
-use Rattle.sweep.specs.Surveying.{is_taken}
+use Rattle.leftovers.specs.Used.{is_taken}
 use Rattle.sweep.proofs.Tallied.{Tallying}
 use Rattle.sweep.proofs.file_counts.add_files.Given as goal
 

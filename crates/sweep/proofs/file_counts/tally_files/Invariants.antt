@@ -1,7 +1,7 @@
 use Rattle.std.proofs.Common.{◌-◌}
 use Rattle.swift_calls.specs.History.{budget}
 use Rattle.swift_calls.specs.Limits.{IsMarker}
-use Rattle.sweep.specs.Surveying.{is_taken}
+use Rattle.leftovers.specs.Used.{is_taken}
 use Rattle.sweep.proofs.Tallied.{TallyWalk}
 use Rattle.sweep.proofs.file_counts.tally_files.Given as goal
 

@@ -2,8 +2,8 @@ use Rattle.std.specs.Prelude.{map}
 use Rattle.std.proofs.Common.{refl, sym, ap, ◌∙◌}
 use Rattle.list_pages.specs.Listing.{name_in}
 use Rattle.account_calls.specs.FilePages.{next_after}
-use Rattle.sweep.specs.Surveying.{is_taken}
-use Rattle.sweep.proofs.PageRead.{as_asked, as_page, as_read, next_is_marker}
+use Rattle.leftovers.specs.Used.{is_taken}
+use Rattle.leftovers.proofs.lemmas.PageRead.{as_asked, as_page, as_read, next_is_marker}
 use Rattle.sweep.proofs.Tallied.{page_counted, page_missed, page_uncounted}
 use Rattle.sweep.proofs.file_counts.tally_page.Goals as goal
 

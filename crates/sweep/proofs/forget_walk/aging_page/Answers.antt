@@ -1,7 +1,7 @@
 use Rattle.std.proofs.Common.{sym, subst}
 use Rattle.swift_calls.specs.Step.{IsContainerName}
 use Rattle.std.proofs.Common.{refl}
-use Rattle.sweep.proofs.PageRead.{as_asked, as_page, as_read}
+use Rattle.leftovers.proofs.lemmas.PageRead.{as_asked, as_page, as_read}
 use Rattle.sweep.proofs.PlanFaults.{asks_at}
 use Rattle.sweep.proofs.forget_walk.aging_page.Goals as goal
 

@@ -1,6 +1,6 @@
 use Rattle.std.proofs.Common.{arith}
 use Rattle.s3_names.specs.Key.{is_key}
-use Rattle.sweep.proofs.Touched.{at_place}
+use Rattle.leftovers.proofs.lemmas.Touched.{at_place}
 use Rattle.sweep.proofs.AgingItems.{aging_all, aging_fault, aging_more, aging_none, fault_near}
 use Rattle.sweep.specs.Swept.{as_plan}
 use Rattle.sweep.proofs.PlanFaults.{plan_gives}

@@ -4,7 +4,7 @@ use Rattle.swift_calls.specs.Step.{IsContainerName}
 use Rattle.list_pages.specs.Listing.{name_in}
 use Rattle.account_calls.specs.FilePages.{next_after}
 use Rattle.account_calls.proofs.lemmas.SideNames.{uploads_fits}
-use Rattle.sweep.proofs.PageRead.{all_keys, as_asked, as_page, as_read, next_is_marker}
+use Rattle.leftovers.proofs.lemmas.PageRead.{all_keys, as_asked, as_page, as_read, next_is_marker}
 use Rattle.sweep.proofs.AgingPage.{page_aged, page_broken, page_distinct, page_failed, page_no_memory, pays_broken_by, pays_failed, pays_no_memory, pays_page}
 use Rattle.sweep.proofs.PlanFaults.{plan_gives}
 use Rattle.sweep.specs.Swept.{as_plan}

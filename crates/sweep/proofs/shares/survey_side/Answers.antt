@@ -1,6 +1,6 @@
 use Rattle.std.proofs.Common.{sym, ◌∙◌}
 use Rattle.account_calls.proofs.lemmas.One.{not_asked}
-use Rattle.sweep.specs.declared.containers.Kind.TheVariants.{Segments}
+use Rattle.leftovers.specs.declared.sides.Kind.TheVariants.{Segments}
 use Rattle.sweep.proofs.Named.{told_side}
 use Rattle.sweep.proofs.NamedShares.{side_none, side_share}
 use Rattle.sweep.proofs.shares.survey_side.Goals as goal

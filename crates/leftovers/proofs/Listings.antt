@@ -1,0 +1,223 @@
+-- What the item of an object in the listing of its bucket says of the segments that it lists; and the calls that read a record and
+-- a list of segments.
+use Rattle.std.specs.Prelude.{◌≡◌, ◌<◌, ◌≤◌, ◌+◌, ℕ, Bool, true, false, List, [], ◌∷◌, length, sum_by, is_none, Option, None, Some, Result, Ok, Err}
+use Rattle.std.specs.Option.{option_and_then, unwrap_or}
+use Rattle.std.specs.Result.{IsErrAnd}
+use Rattle.std.specs.FinMap.{get}
+use Rattle.std.proofs.Common.{refl, sym, ap, subst, ◌∙◌, arith, true≢false}
+use Rattle.std.proofs.lemmas.List.Sums.{sum_by-cons}
+use Rattle.std.proofs.lemmas.Option.{same_Some}
+use Rattle.gate_base.specs.Maps.{Names}
+use Rattle.s3_names.specs.Bucket.{is_bucket}
+use Rattle.s3_names.specs.Id.{id_digits}
+use Rattle.s3_names.specs.Key.{is_key}
+use Rattle.s3_machine.specs.ETag.{body_etag}
+use Rattle.slo_manifest.specs.declared.Segment.{Segment}
+use Rattle.swift_calls.specs.Account.{SwiftObject, SwiftAccount, files, find_object, size_of}
+use Rattle.swift_calls.specs.Bodies.{bytes_of, head_of, plain_bytes, listed_in}
+use Rattle.swift_calls.specs.Step.{body_reply, get_reply, manifest_by, manifest_reply}
+use Rattle.swift_calls.specs.declared.calls.SwiftRequest.TheVariants.{GetManifest, GetObject}
+use Rattle.swift_calls.specs.declared.calls.SwiftReply.{SwiftReply}
+use Rattle.swift_calls.specs.declared.heads.NameItem.{NameItem}
+use Rattle.swift_marks.specs.Tag.{read_stamp, read_tag, stamp_of}
+use Rattle.swift_marks.specs.declared.tag.Stamp.{Stamp}
+use Rattle.swift_marks.specs.declared.tag.Tag.{Tag}
+use Rattle.swift_marks.proofs.lemmas.Stamps.{tag_has_stamp}
+use Rattle.upload_texts.specs.Records.{read_record}
+use Rattle.upload_records.specs.Layout.{segments_name, uploads_name}
+use Rattle.upload_records.specs.Native.{record_of}
+use Rattle.upload_records.specs.Consistent.{AreParts, IsCompletedBody, of_none, of_segments, IsConsistent, IsObject, in_one_piece, in_parts, IsRecord, IsThere}
+use Rattle.upload_records.proofs.lemmas.Objects.{file_is_object}
+use Rattle.upload_records.proofs.lemmas.Subs.{listing_sum}
+use Rattle.swift_calls.specs.History.{History, present}
+use Rattle.swift_marks.specs.Tag.{ReadsStamp}
+use Rattle.swift_marks.specs.declared.fault.MarkFault.{MarkFault}
+use Rattle.swift_marks.specs.declared.fault.MarkFault.TheVariants as mark
+use Rattle.account_calls.specs.declared.fault.PlanFault.{PlanFault}
+use Rattle.account_calls.specs.declared.fault.PlanFault.TheVariants as plan
+use Rattle.account_calls.specs.Fault.{mark_fault}
+use Rattle.account_calls.specs.Calls.{always, Asks}
+use Rattle.account_calls.specs.Listing.{TellsOf}
+use Rattle.account_calls.proofs.lemmas.Faults.{err_is}
+use Rattle.account_calls.proofs.lemmas.FilePages.{file_is_key}
+use Rattle.account_calls.proofs.lemmas.Idle.{grows_none}
+use Rattle.account_calls.proofs.lemmas.One.{IsReadingOf, not_asked}
+use Rattle.leftovers.specs.Gathering.{AreKnown, HasItem, HasListing, HasRecord, TellsListing, TellsOpen, listing_due, open_by, open_due, segments_at, sub_manifests_in}
+use Rattle.leftovers.specs.Leftovers.{is_open, segments_in}
+use Rattle.leftovers.proofs.SubManifests.{list_known}
+
+-- ---- the item of an object
+
+-- what a list of some parts has is some bytes
+parts_filled : (S : Names SwiftObject) (folder id : List ℕ) (above : ℕ) (list : List Segment) → AreParts S folder id above list → 0 < length list → 0 < sum_by (λ s. s.size) list
+parts_filled S folder id above [] h some = absurd (omega (arith, some))
+parts_filled S folder id above (s ∷ list) (number, low, high, listed, rest) some =
+    let filled = listed.filled in
+    let sum : sum_by (λ (x : Segment). x.size) (s ∷ list) ≡ s.size + sum_by (λ (x : Segment). x.size) list = sum_by-cons (λ (x : Segment). x.size) s list in
+    omega (arith, filled, listed.size, sum)
+
+module _ (tree : SwiftAccount) (bucket : List ℕ) (item : NameItem) (is : is_bucket bucket ≡ true) (sound : IsConsistent tree) (has : HasItem bucket bucket item tree) where
+  abbrev S : Names SwiftObject
+  S = files tree (segments_name bucket)
+
+  abbrev file : SwiftObject
+  file = has.is.file
+
+  object : IsObject S (segments_name bucket) item.name file
+  object = file_is_object tree bucket item.name file sound is has.is.found
+
+  size_is : item.size ≡ size_of file.content
+  size_is = ap (λ (x : NameItem). x.size) has.is.is
+
+  type_is : item.content_type ≡ file.content_type
+  type_is = ap (λ (x : NameItem). x.content_type) has.is.is
+
+  listed_are : segments_at tree bucket item.name ≡ segments_in (Some file)
+  listed_are = ap segments_in has.is.found
+
+  stamp_is : (tag : Tag) → read_tag file.content_type ≡ Some tag → read_stamp item.content_type ≡ Some (stamp_of tag)
+  stamp_is tag tagged = ap read_stamp type_is ∙ tag_has_stamp file.content_type tag tagged
+
+  body_none : (id : List ℕ) → size_of file.content ≡ 0 → IsCompletedBody S (segments_name bucket) id file.content → segments_in (Some file) ≡ []
+  body_none id none (of_none own) = ap (λ c. unwrap_or (listed_in c) []) own
+  body_none id none (of_segments listed own list) =
+      let filled = parts_filled S (segments_name bucket) id 0 list.parts list.are list.some in
+      let sum : sum_by (λ (s : Segment). s.size) listed ≡ sum_by (λ (s : Segment). s.size) list.parts = ap (sum_by (λ (s : Segment). s.size)) list.lists ∙ listing_sum (segments_name bucket) id list.parts in
+      absurd (omega (arith, filled, sum, sym (ap size_of own) ∙ none))
+
+  -- an empty one lists none
+  pub empty_lists_none : item.size ≡ 0 → segments_at tree bucket item.name ≡ []
+  empty_lists_none none = listed_are ∙ by object
+    where
+      by : IsObject S (segments_name bucket) item.name file → segments_in (Some file) ≡ []
+      by (in_one_piece keyed plain) = ap (λ c. unwrap_or (listed_in c) []) plain.own
+      by (in_parts keyed completed) = body_none (id_digits completed.id) (sym size_is ∙ none) completed.body
+
+  -- one of no upload lists none
+  pub whole_lists_none : (stamp : Stamp) → read_stamp item.content_type ≡ Some stamp → is_none stamp.id ≡ true → segments_at tree bucket item.name ≡ []
+  whole_lists_none stamp reads none = listed_are ∙ by object
+    where
+      by : IsObject S (segments_name bucket) item.name file → segments_in (Some file) ≡ []
+      by (in_one_piece keyed plain) = ap (λ c. unwrap_or (listed_in c) []) plain.own
+      by (in_parts keyed completed) =
+          let tag : Tag = record { content_type = completed.content_type; etag = completed.etag; moment = completed.moment; id = Some completed.id } in
+          let ids : stamp.id ≡ Some completed.id = ap (λ (x : Stamp). x.id) (same_Some stamp (stamp_of tag) (sym reads ∙ stamp_is tag completed.tagged)) in
+          let no : true ≡ false = sym none ∙ ap is_none ids in
+          cc
+
+  body_lists : (id : List ℕ) → 0 < size_of file.content → IsCompletedBody S (segments_name bucket) id file.content → HasListing bucket item.name tree
+  body_lists id some (of_none own) = absurd (omega (arith, some, ap size_of own))
+  body_lists id some (of_segments listed own list) = record { file = file; listed = listed; found = has.is.found; lists = own }
+
+  -- any other lists some
+  pub others_list : 0 < item.size → (stamp : Stamp) → read_stamp item.content_type ≡ Some stamp → is_none stamp.id ≡ false → HasListing bucket item.name tree
+  others_list some stamp reads other = by object
+    where
+      by : IsObject S (segments_name bucket) item.name file → HasListing bucket item.name tree
+      by (in_one_piece keyed plain) =
+          let tag : Tag = record { content_type = plain.content_type; etag = body_etag plain.bytes; moment = plain.moment; id = None } in
+          let ids : stamp.id ≡ None = ap (λ (x : Stamp). x.id) (same_Some stamp (stamp_of tag) (sym reads ∙ stamp_is tag plain.tagged)) in
+          let no : false ≡ true = sym other ∙ ap is_none ids in
+          cc
+      by (in_parts keyed completed) = body_lists (id_digits completed.id) (omega (arith, some, size_is)) completed.body
+
+  -- each has a stamp
+  pub has_stamp : read_stamp item.content_type ≡ None → ⊥
+  has_stamp none = by object
+    where
+      never : (tag : Tag) → read_tag file.content_type ≡ Some tag → ⊥
+      never tag tagged = let no : None ≡ Some (stamp_of tag) = sym none ∙ stamp_is tag tagged in cc
+
+      by : IsObject S (segments_name bucket) item.name file → ⊥
+      by (in_one_piece keyed plain) = never _ plain.tagged
+      by (in_parts keyed completed) = never _ completed.tagged
+
+-- ---- what it lists
+
+module _ (tree : SwiftAccount) (bucket : List ℕ) (item : NameItem) (is : is_bucket bucket ≡ true) (sound : IsConsistent tree) (has : HasItem bucket bucket item tree) where
+  -- each segment that an object lists is a part or a sub-manifest, and of these there are ten at most
+  pub object_known : AreKnown bucket (segments_at tree bucket item.name) tree × (sub_manifests_in (segments_at tree bucket item.name) ≤ 10)
+  object_known =
+      subst (λ l. AreKnown bucket l tree × (sub_manifests_in l ≤ 10)) (sym (ap segments_in has.is.found)) (by (file_is_object tree bucket item.name has.is.file sound is has.is.found))
+    where
+      bare : (own : segments_in (Some has.is.file) ≡ []) → AreKnown bucket (segments_in (Some has.is.file)) tree × (sub_manifests_in (segments_in (Some has.is.file)) ≤ 10)
+      bare own = subst (λ l. AreKnown bucket l tree × (sub_manifests_in l ≤ 10)) (sym own) (tt, omega arith)
+
+      by_body : (id : ℕ) → IsCompletedBody (files tree (segments_name bucket)) (segments_name bucket) (id_digits id) has.is.file.content → AreKnown bucket (segments_in (Some has.is.file)) tree × (sub_manifests_in (segments_in (Some has.is.file)) ≤ 10)
+      by_body id (of_none own) = bare (ap (λ c. unwrap_or (listed_in c) []) own)
+      by_body id (of_segments listed own list) =
+          subst (λ l. AreKnown bucket l tree × (sub_manifests_in l ≤ 10)) (sym (ap (λ c. unwrap_or (listed_in c) []) own)) (list_known tree bucket id listed list)
+
+      by : IsObject (files tree (segments_name bucket)) (segments_name bucket) item.name has.is.file → AreKnown bucket (segments_in (Some has.is.file)) tree × (sub_manifests_in (segments_in (Some has.is.file)) ≤ 10)
+      by (in_one_piece keyed plain) = bare (ap (λ c. unwrap_or (listed_in c) []) plain.own)
+      by (in_parts keyed completed) = by_body completed.id completed.body
+
+-- ---- GET of a list
+
+pub listing_reads : {bucket key container name : List ℕ} → container ≡ bucket → name ≡ key → IsReadingOf (HasListing bucket key) (GetManifest container name) listing_due (TellsListing bucket key)
+listing_reads {bucket = bucket} {key = key} named under = record {
+  leaves = λ tree. refl;
+  tells = λ tree sound has reply replied. (
+    has.listed,
+    ap listing_due (replied ∙ (λ i. manifest_reply (find_object tree (named i) (under i))) ∙ ap manifest_reply has.found ∙ ap (λ c. manifest_by (listed_in c)) has.lists),
+    sym (ap segments_in has.found ∙ ap (λ c. unwrap_or (listed_in c) []) has.lists),
+  );
+}
+
+-- ---- GET of a record
+
+record_file : (name : List ℕ) (file : SwiftObject) (kept : IsRecord name file) → record_of file ≡ Some kept.is
+record_file name file kept = ap (λ c. option_and_then read_record (plain_bytes c)) kept.own ∙ kept.reads
+
+module _ (tree : SwiftAccount) (bucket name : List ℕ) (is : is_bucket bucket ≡ true) (sound : IsConsistent tree) (has : HasRecord bucket name tree) where
+  open_told_by : (reply : SwiftReply) → reply ≡ get_reply (find_object tree) None (Some has.file) → (told : Bool) × (open_due reply ≡ Ok told) × TellsOpen bucket name tree told
+  open_told_by reply e =
+      let kept = (sound.buckets bucket is has.there).of_records name has.file has.found in (
+        is_open (Some kept.is),
+        ap open_due e ∙ (λ i. open_due (body_reply (head_of has.file) None (bytes_of (find_object tree) (kept.own i)))) ∙ ap open_by kept.reads,
+        sym (ap is_open (ap (option_and_then record_of) has.found ∙ record_file name has.file kept)),
+      )
+
+pub open_reads : {container name under : List ℕ} (bucket : List ℕ) → container ≡ uploads_name bucket → name ≡ under → is_bucket bucket ≡ true → IsReadingOf (HasRecord bucket under) (GetObject container name None) open_due (TellsOpen bucket under)
+open_reads {under = under} bucket named same is = record {
+  leaves = λ tree. refl;
+  tells = λ tree sound has reply replied.
+      open_told_by tree bucket under is sound has reply (replied ∙ (λ i. get_reply (find_object tree) None (find_object tree (named i) (same i))) ∙ ap (get_reply (find_object tree) None) has.found);
+}
+
+-- the item of a record says that its file is there
+pub has_record : {folder bucket : List ℕ} {item : NameItem} → folder ≡ uploads_name bucket → (tree : SwiftAccount) → HasItem folder bucket item tree → HasRecord bucket item.name tree
+has_record {item = item} named tree has = record { there = has.there; file = has.is.file; found = ap (λ f. get (files tree f) item.name) (sym named) ∙ has.is.found }
+
+-- ---- the stamp of an item can't be read
+
+pub stamp_fault : (bucket : List ℕ) (item : NameItem) → is_bucket bucket ≡ true → {T : Type 0} {P : SwiftAccount → T → Type 0} (a : History) (text : List ℕ) → text ≡ item.content_type → (f : MarkFault) → ReadsStamp (read_stamp text) (Err f)
+    → (result : Result T PlanFault) → IsErrAnd result (λ e. e ≡ mark_fault f) → Asks (always 1) a a (HasItem bucket bucket item) (TellsOf P) result
+stamp_fault bucket item is {P = P} a text same mark.NoTag none result gives = subst (Asks (always 1) a a (HasItem bucket bucket item) (TellsOf P)) (sym (err_is result plan.Inconsistent gives)) (record {
+  grows = grows_none (always 1) (HasItem bucket bucket item) a;
+  cause = refl;
+  effect = λ met. absurd (has_stamp (present a) bucket item is met.sound met.has (ap read_stamp (sym same) ∙ none));
+  settled = λ observable settled. settled;
+})
+stamp_fault bucket item is a text same mark.BadPack never result gives = absurd never
+stamp_fault bucket item is a text same mark.Memory done result gives = not_asked (always 1) a result gives
+
+-- ---- the list of a sub-manifest
+
+-- a name that is no key is that of no file
+pub unkeyed : {T : Type 0} {P : SwiftAccount → T → Type 0} (bucket : List ℕ) (a : History) (name text : List ℕ) → text ≡ name → is_key text ≡ false
+    → Asks (always 1) a a (HasListing (segments_name bucket) name) (TellsOf P) (Err plan.Inconsistent)
+unkeyed bucket a name text same not = record {
+  grows = grows_none (always 1) (HasListing (segments_name bucket) name) a;
+  cause = refl;
+  effect = λ met.
+      let keyed : is_key name ≡ true = file_is_key name (met.sound.stored (segments_name bucket) name met.has.file met.has.found).named in
+      absurd (true≢false (sym keyed ∙ ap is_key (sym same) ∙ not));
+  settled = λ observable settled. settled;
+}
+
+-- the container by its name
+pub listing_named : {a b : History} (bucket : List ℕ) {folder name : List ℕ} {result : Result (List Segment) PlanFault} → folder ≡ segments_name bucket
+    → Asks (always 1) a b (HasListing folder name) (TellsOf (TellsListing folder name)) result
+    → Asks (always 1) a b (HasListing (segments_name bucket) name) (TellsOf (TellsListing (segments_name bucket) name)) result
+listing_named {a = a} {b = b} bucket {name = name} {result = result} named asks = subst (λ f. Asks (always 1) a b (HasListing f name) (TellsOf (TellsListing f name)) result) named asks

@@ -1,0 +1,15 @@
+use Rattle.std.proofs.Common.{◌-◌}
+use Rattle.swift_calls.specs.History.{budget}
+use Rattle.swift_calls.specs.Limits.{IsMarker}
+use Rattle.leftovers.specs.Kept.{goes}
+use Rattle.leftovers.proofs.SweepWalk.{Walked}
+use Rattle.leftovers.proofs.files.sweep_files.Given as goal
+
+abbrev pub decreases-pages : goal.decreases-pages
+decreases-pages g l = budget - (g.W.Swift.history l.store).called
+
+abbrev pub invariant-pages : goal.invariant-pages
+invariant-pages g l = record {
+  is_marker : IsMarker l.marker;
+  walked : Walked (g.W.Swift.history l.initial.store) (g.W.Swift.history l.store) l.folder l.bucket (goes l.kept) l.marker l.count;
+}

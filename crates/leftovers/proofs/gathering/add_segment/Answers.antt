@@ -1,0 +1,19 @@
+use Rattle.std.proofs.Common.{sym, ap, ◌∙◌}
+use Rattle.account_calls.proofs.lemmas.One.{not_asked}
+use Rattle.leftovers.specs.Leftovers.{is_sub_manifest_name}
+use Rattle.leftovers.proofs.Namings.{part_named, sub_added}
+use Rattle.leftovers.proofs.lemmas.Readings.{asks_idle}
+use Rattle.leftovers.proofs.gathering.add_segment.Goals as goal
+
+pub returns-in_err-put : goal.returns-in_err-put
+returns-in_err-put g c = record { asks = not_asked _ _ _ c.from_residual.ensures.1 }
+
+pub returns-then-not-is_sub_manifest : goal.returns-then-not-is_sub_manifest
+returns-then-not-is_sub_manifest g c =
+    let not = ap is_sub_manifest_name (sym c.as_slice-2.ensures) ∙ sym c.is_sub_manifest.ensures ∙ c.if-not-is_sub_manifest.true in
+    record { asks = asks_idle _ _ tt (λ tree sound known. part_named tree c.args.bucket.now c.args.segment.now c.args.table.now c.put.new.self c.as_slice.result.now c.as_slice.ensures not known c.in_ok-put.ensures.ok) }
+
+pub returns : goal.returns
+returns g c =
+    let so = ap is_sub_manifest_name (sym c.as_slice-2.ensures) ∙ sym c.is_sub_manifest.ensures ∙ c.if-not-is_sub_manifest.false in
+    record { asks = sub_added c.args.bucket.now c.args.segment.now c.args.table.now c.put.new.self c.add_sub_manifest.new.table c.as_slice.result.now c.as_slice.ensures so c.in_ok-put.ensures.ok _ c.add_sub_manifest.ensures.asks }

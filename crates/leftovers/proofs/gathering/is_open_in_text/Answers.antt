@@ -1,0 +1,10 @@
+use Rattle.std.proofs.Common.{Err, ap, sym, subst, inr}
+use Rattle.upload_texts.specs.Records.{ReadsRecord}
+use Rattle.leftovers.proofs.lemmas.Versions.{none_of_version}
+use Rattle.leftovers.specs.Gathering.{open_by}
+use Rattle.leftovers.proofs.gathering.is_open_in_text.Goals as goal
+
+pub returns-in-Err-Version-clause-due : goal.returns-in-Err-Version-clause-due
+returns-in-Err-Version-clause-due c =
+    let other = subst (λ fault. ReadsRecord c.args.text.now (Err fault)) c.in-Err-Version.field-0-is c.in-Err-Version.ensures in
+    inr (sym (ap open_by (none_of_version c.args.text.now c.in-Err-Version.field-0-0 other)))

@@ -1,0 +1,11 @@
+pub mod Consistency
+pub mod Counted
+pub mod FileNames
+pub mod Joined
+pub mod KeptOf
+pub mod Lists
+pub mod PageRead
+pub mod Readings
+pub mod Touched
+pub mod Turned
+pub mod Versions

@@ -1,0 +1,9 @@
+pub mod Gathering
+pub mod Kept
+pub mod Laws
+pub mod Leftovers
+pub mod Segments
+pub mod Sides
+pub mod Strays
+pub mod Sweeping
+pub mod Used

@@ -1,0 +1,408 @@
+//! What a sweep remembers of a bucket, gathered from the files of a container page by page.
+ghost use Rattle.std.specs.Prelude.{◌≡◌, ◌≢◌, ◌<◌, ◌≤◌, ◌+◌, ◌*◌, ◌||◌, ℕ, List, [], ◌∷◌, length, map, true, is_some, IfOk, IfSome, OnOk, Err, Some};
+ghost use Rattle.std.specs.List.{list_all};
+ghost use Rattle.std.specs.FinMap.{get};
+ghost use Rattle.s3_names.specs.Bucket.{is_bucket};
+ghost use Rattle.s3_names.specs.Key.{is_key};
+ghost use Rattle.list_pages.specs.Listing.{name_in};
+ghost use Rattle.swift_calls.specs.History.{budget, present};
+ghost use Rattle.swift_calls.specs.Limits.{IsMarker};
+ghost use Rattle.swift_calls.specs.Step.{IsContainerName};
+ghost use Rattle.upload_texts.specs.Records.{read_record};
+ghost use Rattle.upload_records.specs.Layout.{segments_name};
+ghost use Rattle.account_calls.specs.Calls.{always, by_account, Asks};
+ghost use Rattle.account_calls.specs.Interpret.{Gives};
+ghost use Rattle.account_calls.specs.Listing.{TellsOf};
+ghost use Rattle.account_calls.specs.declared.fault.PlanFault.TheVariants as fault;
+ghost use Rattle.leftovers.specs.Gathering.{calls_a_file, folder_of, gather_calls, listing_due, open_by, open_due, sub_manifests_in, AreKnown, HasItem, HasItems, HasListing, HasRecord, InBucket, IsKnown, PaysGathering, TellsAdded, TellsAll, TellsGathered, TellsInner, TellsListing, TellsNamed, TellsOpen};
+ghost use Rattle.leftovers.specs.Leftovers.{is_named_in, is_open, is_sub_manifest_name};
+ghost use Rattle.leftovers.specs.declared.gathering.Source.TheVariants.{Objects, Records};
+
+use crate::files::file_page;
+use account_calls::{PlanFault, ask, next_marker};
+use gate_base::{Bytes, Copying, List, Memory, drop};
+use name_table::Table;
+use s3_names::is_key;
+use slo_manifest::Segment;
+use std::alloc::Global;
+use swift_calls::{NameItem, Swift, SwiftReply, SwiftRequest};
+use swift_marks::Stamp;
+use upload_records::segments_container;
+use upload_texts::{Record, RecordFault};
+
+/// Of which files what they add is gathered.
+#[derive(Clone, Copy, Debug, PartialEq, Eq)]
+pub enum Source {
+    /// The records beside a bucket: the names of those of open uploads.
+    Records,
+    /// The objects of a bucket: the names of the segments that they list.
+    Objects,
+}
+
+/// Whether a record that was listed is that of an open upload, by GET of its file (Object Storage API v1, "Get object content and
+/// metadata"). One that isn't there now is inconsistent. At most one call.
+#[tactic(auto, using(account_calls::proofs::lemmas::Names::object_name))]
+fn is_open_upload<W: Swift>(
+    alloc: Global,
+    store: &mut W,
+    folder: &Bytes,
+    name: &Bytes,
+) -> Result<bool, PlanFault>
+    requires folder { IsContainerName folder.now }
+    requires name { is_key name.now ≡ true }
+    ensures asks { (bucket : List ℕ) → is_bucket bucket ≡ true → folder.now ≡ folder_of Records bucket
+        → Asks (always 1) (W.history store.old) (W.history store.new)
+        (HasRecord bucket name.now) (TellsOf (TellsOpen bucket name.now)) result }
+{
+    let container = folder.copy()?;
+    let name = name.copy()?;
+    let request = SwiftRequest::GetObject {
+        container,
+        name,
+        range: None,
+    };
+    let reply = ask(store, request)?;
+    is_open_in_reply(alloc, &reply)
+}
+
+fn is_open_in_reply(alloc: Global, reply: &SwiftReply) -> Result<bool, PlanFault>
+    ensures due { Gives result (open_due reply.now) }
+    ensures own { result ≢ Err fault.Failed }
+{
+    match reply {
+        SwiftReply::Bytes { body, .. } => is_open_in_text(alloc, body.as_slice()),
+        _ => Err(PlanFault::Inconsistent),
+    }
+}
+
+fn is_open_in_text(alloc: Global, text: &[u8]) -> Result<bool, PlanFault>
+    ensures due { Gives result (open_by (read_record text.now)) }
+    ensures own { result ≢ Err fault.Failed }
+{
+    match Record::read(alloc, text) {
+        Ok(record) => {
+            let opened = is_open_record(&record);
+            drop(record);
+            Ok(opened)
+        }
+        Err(RecordFault::Memory) => Err(PlanFault::Memory),
+        Err(RecordFault::NotARecord) => Err(PlanFault::Inconsistent),
+        Err(RecordFault::Version(_)) => Err(PlanFault::Inconsistent),
+    }
+}
+
+fn is_open_record(told: &Record) -> bool
+    ensures { result ≡ is_open (Some told.now) }
+{
+    match told {
+        Record::Open { .. } => true,
+        Record::Done { .. } => false,
+    }
+}
+
+/// Adds the name of a record, where it is that of an open upload.
+fn add_record<W: Swift>(
+    alloc: Global,
+    store: &mut W,
+    folder: &Bytes,
+    name: &Bytes,
+    table: &mut Table<bool>,
+) -> Result<(), PlanFault>
+    requires folder { IsContainerName folder.now }
+    requires name { is_key name.now ≡ true }
+    ensures asks { (bucket : List ℕ) → is_bucket bucket ≡ true → folder.now ≡ folder_of Records bucket
+        → Asks (always 1) (W.history store.old) (W.history store.new)
+        (HasRecord bucket name.now)
+        (TellsOf (TellsAdded Records bucket (name.now ∷ []) table.old table.new)) result }
+{
+    if !is_open_upload(alloc, store, folder, name)? {
+        return Ok(());
+    }
+    table.put(name.as_slice(), true)?;
+    Ok(())
+}
+
+/// The segments that an object lists, by GET of their list (Object Storage API v1, "Static large objects"); none, without a call,
+/// where its item in the listing says that it was put in one piece or is empty. At most one call.
+#[tactic(auto, using(account_calls::proofs::lemmas::Names::object_name, account_calls::proofs::lemmas::Names::container_name))]
+fn listing_of_object<W: Swift>(
+    alloc: Global,
+    store: &mut W,
+    bucket: &Bytes,
+    item: &NameItem,
+) -> Result<List<Segment>, PlanFault>
+    requires bucket { is_bucket bucket.now ≡ true }
+    requires name { is_key item.now.name ≡ true }
+    ensures asks { Asks (always 1) (W.history store.old) (W.history store.new)
+        (HasItem bucket.now bucket.now item.now) (TellsOf (TellsListing bucket.now item.now.name)) result }
+{
+    if item.size == 0 {
+        return Ok(List::new(alloc));
+    }
+    let stamp = Stamp::read(alloc, item.content_type.as_slice())?;
+    match stamp.id {
+        None => Ok(List::new(alloc)),
+        Some(_) => get_listing(store, bucket, &item.name),
+    }
+}
+
+/// The segments that a file lists which is known to list some. At most one call.
+#[tactic(auto, using(account_calls::proofs::lemmas::Names::object_name))]
+fn get_listing<W: Swift>(
+    store: &mut W,
+    container: &Bytes,
+    name: &Bytes,
+) -> Result<List<Segment>, PlanFault>
+    requires container { IsContainerName container.now }
+    requires name { is_key name.now ≡ true }
+    ensures asks { Asks (always 1) (W.history store.old) (W.history store.new)
+        (HasListing container.now name.now) (TellsOf (TellsListing container.now name.now)) result }
+{
+    let container = container.copy()?;
+    let name = name.copy()?;
+    let reply = ask(store, SwiftRequest::GetManifest { container, name })?;
+    listing_in_reply(reply)
+}
+
+fn listing_in_reply(reply: SwiftReply) -> Result<List<Segment>, PlanFault>
+    ensures due { result ≡ listing_due reply }
+    ensures own { result ≢ Err fault.Failed }
+{
+    match reply {
+        SwiftReply::Manifest(segments) => Ok(segments),
+        _ => Err(PlanFault::Inconsistent),
+    }
+}
+
+/// Adds the names of the segments of a list.
+fn add_names(table: &mut Table<bool>, segments: &[Segment]) -> Result<(), Memory>
+    ensures { OnOk result ((text : List ℕ) → is_some (get table.new text)
+        ≡ (is_some (get table.old text) || is_named_in text segments.now)) }
+{
+    for segment in segments {
+        table.put(segment.name.as_slice(), true)?;
+    }
+    Ok(())
+}
+
+/// Whether a name is that of a sub-manifest: `m` stands behind the id and the slash, where a part has a digit.
+pub(crate) fn is_sub_manifest(name: &[u8]) -> bool
+    ensures { result ≡ is_sub_manifest_name name.now }
+{
+    33 < name.len() && name[33] == b'm'
+}
+
+/// How many of these segments are sub-manifests.
+fn sub_manifests_in(segments: &[Segment]) -> usize
+    ensures { result ≡ sub_manifests_in segments.now }
+{
+    let mut count = 0;
+    for segment in segments {
+        if is_sub_manifest(segment.name.as_slice()) {
+            count += 1;
+        }
+    }
+    count
+}
+
+/// The segments that a sub-manifest beside a bucket lists. At most one call.
+fn listing_of_sub_manifest<W: Swift>(
+    alloc: Global,
+    store: &mut W,
+    bucket: &Bytes,
+    name: &Bytes,
+) -> Result<List<Segment>, PlanFault>
+    requires { is_bucket bucket.now ≡ true }
+    ensures asks { Asks (always 1) (W.history store.old) (W.history store.new)
+        (HasListing (segments_name bucket.now) name.now)
+        (TellsOf (TellsListing (segments_name bucket.now) name.now)) result }
+{
+    if !is_key(name.as_slice()) {
+        return Err(PlanFault::Inconsistent);
+    }
+    let folder = segments_container(alloc, bucket.as_slice())?;
+    get_listing(store, &folder, name)
+}
+
+/// Adds the names of the segments that a sub-manifest beside a bucket lists. At most one call.
+fn add_sub_manifest<W: Swift>(
+    alloc: Global,
+    store: &mut W,
+    bucket: &Bytes,
+    name: &Bytes,
+    table: &mut Table<bool>,
+) -> Result<(), PlanFault>
+    requires { is_bucket bucket.now ≡ true }
+    ensures asks { Asks (always 1) (W.history store.old) (W.history store.new)
+        (HasListing (segments_name bucket.now) name.now)
+        (TellsOf (TellsInner bucket.now name.now table.old table.new)) result }
+{
+    let segments = listing_of_sub_manifest(alloc, store, bucket, name)?;
+    add_names(table, segments.as_slice())?;
+    Ok(())
+}
+
+/// Adds the name of a segment that an object lists and, where it is a sub-manifest, the names of those that it lists. At most one
+/// call, and none for a part.
+fn add_segment<W: Swift>(
+    alloc: Global,
+    store: &mut W,
+    bucket: &Bytes,
+    segment: &Segment,
+    table: &mut Table<bool>,
+) -> Result<(), PlanFault>
+    requires { is_bucket bucket.now ≡ true }
+    ensures asks { Asks (always (sub_manifests_in (segment.now ∷ []))) (W.history store.old)
+        (W.history store.new) (IsKnown bucket.now segment.now)
+        (TellsOf (TellsNamed bucket.now (segment.now ∷ []) table.old table.new)) result }
+{
+    table.put(segment.name.as_slice(), true)?;
+    if !is_sub_manifest(segment.name.as_slice()) {
+        return Ok(());
+    }
+    add_sub_manifest(alloc, store, bucket, &segment.name, table)
+}
+
+/// Adds the names of the segments that an object lists, by itself or through sub-manifests. A call for each sub-manifest.
+fn add_listing<W: Swift>(
+    alloc: Global,
+    store: &mut W,
+    bucket: &Bytes,
+    segments: &[Segment],
+    table: &mut Table<bool>,
+) -> Result<(), PlanFault>
+    requires { is_bucket bucket.now ≡ true }
+    ensures asks { Asks (always (sub_manifests_in segments.now)) (W.history store.old)
+        (W.history store.new) (AreKnown bucket.now segments.now)
+        (TellsOf (TellsNamed bucket.now segments.now table.old table.new)) result }
+{
+    for segment in segments {
+        add_segment(alloc, store, bucket, segment, table)?;
+    }
+    Ok(())
+}
+
+/// Adds the names of the segments that an object lists. At most eleven calls: one for its list, and one for each sub-manifest, of
+/// which an object has ten at most.
+fn add_object<W: Swift>(
+    alloc: Global,
+    store: &mut W,
+    bucket: &Bytes,
+    item: &NameItem,
+    table: &mut Table<bool>,
+) -> Result<(), PlanFault>
+    requires bucket { is_bucket bucket.now ≡ true }
+    requires name { is_key item.now.name ≡ true }
+    ensures asks { Asks (always calls_a_file) (W.history store.old) (W.history store.new)
+        (HasItem bucket.now bucket.now item.now)
+        (TellsOf (TellsAdded Objects bucket.now (item.now.name ∷ []) table.old table.new)) result }
+{
+    let segments = listing_of_object(alloc, store, bucket, item)?;
+    let many = sub_manifests_in(segments.as_slice());
+    if many > 10 {
+        return Err(PlanFault::Inconsistent);
+    }
+    add_listing(alloc, store, bucket, segments.as_slice(), table)
+}
+
+/// Adds what the file of an item adds.
+fn add_item<W: Swift>(
+    alloc: Global,
+    store: &mut W,
+    bucket: &Bytes,
+    folder: &Bytes,
+    source: Source,
+    item: &NameItem,
+    table: &mut Table<bool>,
+) -> Result<(), PlanFault>
+    requires bucket { is_bucket bucket.now ≡ true }
+    requires folder { folder.now ≡ folder_of source bucket.now }
+    requires name { is_key item.now.name ≡ true }
+    ensures asks { Asks (always calls_a_file) (W.history store.old) (W.history store.new)
+        (HasItem folder.now bucket.now item.now)
+        (TellsOf (TellsAdded source bucket.now (item.now.name ∷ []) table.old table.new)) result }
+{
+    match source {
+        Source::Records => add_record(alloc, store, folder, &item.name, table),
+        Source::Objects => add_object(alloc, store, bucket, item, table),
+    }
+}
+
+/// Adds what the files of a page add.
+fn add_items<W: Swift>(
+    alloc: Global,
+    store: &mut W,
+    bucket: &Bytes,
+    folder: &Bytes,
+    source: Source,
+    items: &[NameItem],
+    table: &mut Table<bool>,
+) -> Result<(), PlanFault>
+    requires bucket { is_bucket bucket.now ≡ true }
+    requires folder { folder.now ≡ folder_of source bucket.now }
+    requires names { list_all is_key (map name_in items.now) ≡ true }
+    ensures asks { Asks (always (calls_a_file * length items.now)) (W.history store.old) (W.history store.new)
+        (HasItems folder.now bucket.now items.now)
+        (TellsOf (TellsAdded source bucket.now (map name_in items.now) table.old table.new)) result }
+{
+    for item in items {
+        add_item(alloc, store, bucket, folder, source, item, table)?;
+    }
+    Ok(())
+}
+
+/// Adds what a page of files adds. What is told is the marker of the next page, and `None` after the last one.
+fn gather_page<W: Swift>(
+    alloc: Global,
+    store: &mut W,
+    bucket: &Bytes,
+    folder: &Bytes,
+    source: Source,
+    marker: &Bytes,
+    table: &mut Table<bool>,
+) -> Result<Option<Bytes>, PlanFault>
+    requires bucket { is_bucket bucket.now ≡ true }
+    requires folder { folder.now ≡ folder_of source bucket.now }
+    requires marker { IsMarker marker.now }
+    ensures counted { IfOk result (λ _. (W.history store.old).called < budget
+        × ((W.history store.old).called < (W.history store.new).called)) }
+    ensures is_marker { IfOk result (λ next. IfSome next IsMarker) }
+    ensures asks { Asks (always 11001) (W.history store.old) (W.history store.new)
+        (InBucket bucket.now)
+        (TellsOf (TellsGathered source folder.now bucket.now marker.now table.old table.new)) result }
+    ensures pays { PaysGathering folder.now bucket.now marker.now (W.history store.old)
+        (W.history store.new) result }
+{
+    let page = file_page(alloc, store, folder.as_slice(), marker.as_slice())?;
+    let next = next_marker(page.as_slice())?;
+    add_items(alloc, store, bucket, folder, source, page.as_slice(), table)?;
+    Ok(next)
+}
+
+/// What all files of a container add, page by page: the ids of the open uploads of a bucket, or the names of the segments that its
+/// objects list. At most as many calls as there are pages, and eleven for each file, where the store is observable and its account
+/// consistent; the account stays as it is. One page and one list of segments are held at a time, and what is gathered. Failed comes
+/// only where the store's count of faults rose; Memory where memory ran out; Inconsistent never over an observable consistent account on
+/// which the bucket is there.
+pub fn gather<W: Swift>(
+    alloc: Global,
+    store: &mut W,
+    bucket: &Bytes,
+    folder: &Bytes,
+    source: Source,
+) -> Result<Table<bool>, PlanFault>
+    requires bucket { is_bucket bucket.now ≡ true }
+    requires folder { folder.now ≡ folder_of source bucket.now }
+    ensures asks { Asks (by_account (gather_calls (present (W.history store.old)) folder.now))
+        (W.history store.old) (W.history store.new) (InBucket bucket.now)
+        (TellsOf (TellsAll source folder.now bucket.now)) result }
+{
+    let mut table = Table::new(alloc);
+    let mut marker = Bytes::new(alloc);
+    'pages: loop {
+        match gather_page(alloc, store, bucket, folder, source, &marker, &mut table)? {
+            Some(next) => marker = next,
+            None => return Ok(table),
+        }
+    }
+}

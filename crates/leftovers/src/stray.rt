@@ -1,0 +1,89 @@
+//! The sweep of a container beside a bucket that is missing.
+ghost use Rattle.std.specs.Prelude.{◌≡◌, ◌≢◌, ◌≤◌, ◌<◌, ◌+◌, ◌^◌, ℕ, List, IfOk, Err};
+ghost use Rattle.swift_calls.specs.History.{budget, present};
+ghost use Rattle.swift_calls.specs.Step.{IsContainerName};
+ghost use Rattle.upload_records.specs.Consistent.{IsBeside};
+ghost use Rattle.account_calls.specs.Calls.{always, by_account, Any, Asks};
+ghost use Rattle.account_calls.specs.Listing.{TellsOf};
+ghost use Rattle.account_calls.specs.declared.fault.PlanFault.TheVariants as fault;
+ghost use Rattle.leftovers.specs.Strays.{clear_calls, removed_due, there_due, ClearsSide, IsBareStray, IsStray, Removes, TellsThere};
+
+use crate::files::sweep_files;
+use crate::kept::Kept;
+use account_calls::{PlanFault, ask};
+use gate_base::{Bytes, Copying};
+use std::alloc::Global;
+use swift_calls::{Swift, SwiftReply, SwiftRequest};
+
+/// Whether a container is there, by HEAD of it (Object Storage API v1, "Show container metadata"). At most one call, and the account
+/// stays as it is. Failed comes only where the store's count of faults rose; Memory where memory ran out; Inconsistent never over an
+/// observable consistent account.
+pub fn is_there<W: Swift>(store: &mut W, name: &Bytes) -> Result<bool, PlanFault>
+    requires { IsContainerName name.now }
+    ensures asks { Asks (always 1) (W.history store.old) (W.history store.new) Any
+        (TellsOf (TellsThere name.now)) result }
+{
+    let container = name.copy()?;
+    let reply = ask(store, SwiftRequest::HeadContainer { container })?;
+    there_in_reply(&reply)
+}
+
+fn there_in_reply(reply: &SwiftReply) -> Result<bool, PlanFault>
+    ensures due { result ≡ there_due reply.now }
+    ensures own { result ≢ Err fault.Failed }
+{
+    match reply {
+        SwiftReply::Readers { .. } => Ok(true),
+        SwiftReply::NotFound => Ok(false),
+        _ => Err(PlanFault::Inconsistent),
+    }
+}
+
+/// Deletes a container beside a bucket that is missing, which has no file, by DELETE of it (Object Storage API v1, "Delete
+/// container"). At most one call.
+fn remove_side<W: Swift>(store: &mut W, folder: &Bytes) -> Result<(), PlanFault>
+    requires { IsContainerName folder.now }
+    ensures counted { IfOk result (λ _. (W.history store.old).called < budget
+        × ((W.history store.new).called ≡ (W.history store.old).called + 1)) }
+    ensures asks { (bucket : List ℕ) → IsBeside folder.now bucket
+        → Asks (always 1) (W.history store.old) (W.history store.new)
+        (IsBareStray folder.now bucket) (Removes folder.now) result }
+{
+    let container = folder.copy()?;
+    let reply = ask(store, SwiftRequest::DeleteContainer { container })?;
+    removed_in_reply(&reply)
+}
+
+fn removed_in_reply(reply: &SwiftReply) -> Result<(), PlanFault>
+    ensures due { result ≡ removed_due reply.now }
+    ensures own { result ≢ Err fault.Failed }
+{
+    match reply {
+        SwiftReply::Gone => Ok(()),
+        _ => Err(PlanFault::Inconsistent),
+    }
+}
+
+/// Deletes a container beside a bucket that is missing with all its files, and counts them. At most as many calls as there are pages
+/// and files, and one, where the store is observable and its account consistent; and the S3 state stays. Failed comes only where the
+/// store's count of faults rose; Memory where memory ran out; Inconsistent never over an observable consistent account that is settled and
+/// has the container, but not the bucket. After a fault what was deleted stays deleted.
+pub fn sweep_stray<W: Swift>(
+    alloc: Global,
+    store: &mut W,
+    bucket: &Bytes,
+    folder: &Bytes,
+) -> Result<u64, PlanFault>
+    requires folder { IsContainerName folder.now }
+    requires beside { IsBeside folder.now bucket.now }
+    ensures counted { IfOk result (λ count. (W.history store.old).called + (count + 1) ≤ (W.history store.new).called) }
+    ensures fits { IfOk result (λ count. (W.history store.old).called + (count + 1) < 2 ^ 64) }
+    ensures asks { Asks (by_account (clear_calls (present (W.history store.old)) folder.now))
+        (W.history store.old) (W.history store.new) (IsStray folder.now bucket.now)
+        (ClearsSide folder.now) result }
+{
+    let kept = Kept::nothing(alloc);
+    let count = sweep_files(alloc, store, bucket, folder, &kept)?;
+    remove_side(store, folder)?;
+    Ok(count)
+}

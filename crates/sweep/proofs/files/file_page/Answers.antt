@@ -1,8 +1,0 @@
-use Rattle.account_calls.proofs.lemmas.FilePages.{page_fault, page_told}
-use Rattle.sweep.proofs.files.file_page.Goals as goal
-
-pub returns-in_err-names-clause-asks : goal.returns-in_err-names-clause-asks
-returns-in_err-names-clause-asks g c = page_fault _ _ _ c.in_err-names.ensures.asks _ c.from_residual.ensures.1
-
-pub returns-clause-asks : goal.returns-clause-asks
-returns-clause-asks g c = page_told _ _ _ c.in_ok-names.ensures.asks

@@ -1,5 +1,0 @@
-use Rattle.sweep.proofs.Namings.{Naming}
-use Rattle.sweep.proofs.gather.add_listing.Given as goal
-
-abbrev pub invariant-loop-segment : goal.invariant-loop-segment
-invariant-loop-segment g l = Naming l.bucket l.segments l.initial.table (g.W.Swift.history l.initial.store) (g.W.Swift.history l.store) l.segment-index l.table
