@@ -40,6 +40,7 @@ lines_of (byte ∷ text) = if is_newline byte then [] ∷ lines_of text else beg
 abbrev pub keys_of : List ℕ → List AccessKey
 keys_of text = map key_of (lines_of text)
 
+-- the key has this id
 abbrev pub has_id : List ℕ → AccessKey → Bool
 has_id id key = bytes_eq key.id id
 

@@ -1,5 +1,6 @@
 pub mod Authorization
 pub mod Canonical
+pub mod Chunked
 pub mod Hmac
 pub mod Index
 pub mod Keys

@@ -49,6 +49,7 @@ abbrev pub leaves_unsigned : Authorization → List Pair → Bool
 leaves_unsigned claim headers =
     not (has_header (codes "host") headers) || list_any (is_left_out claim) headers
 
+-- the time of a request, as its header has it
 abbrev pub time_of : List Pair → List ℕ
 time_of headers = first_value (codes "x-amz-date") headers
 
@@ -57,6 +58,7 @@ abbrev pub lacks_date : Authorization → List Pair → Bool
 lacks_date claim headers =
     not (has_single_header (codes "x-amz-date") headers && is_time (time_of headers) && bytes_eq (date_of (time_of headers)) claim.date)
 
+-- the hash of the payload, as its header has it
 abbrev pub hash_of : List Pair → List ℕ
 hash_of headers = first_value (codes "x-amz-content-sha256") headers
 

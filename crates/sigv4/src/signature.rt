@@ -76,7 +76,7 @@ pub fn date_of(date_time: &[u8]) -> &[u8]
     &date_time[..8]
 }
 
-fn scope_of(alloc: Global, date: &[u8], region: &[u8]) -> Result<Bytes, Memory>
+pub(crate) fn scope_of(alloc: Global, date: &[u8], region: &[u8]) -> Result<Bytes, Memory>
     ensures { IfOk result (λ scope. scope ≡ scope_of date.now region.now) }
 {
     let mut scope = Bytes::from_slice(alloc, date)?;
@@ -109,7 +109,12 @@ fn append_lines_to_sign(text: &mut Bytes, first: &[u8], second: &[u8]) -> Result
     text.push(b'\n')
 }
 
-fn signing_key(alloc: Global, secret: &[u8], date: &[u8], region: &[u8]) -> Result<[u8; 32], Memory>
+pub(crate) fn signing_key(
+    alloc: Global,
+    secret: &[u8],
+    date: &[u8],
+    region: &[u8],
+) -> Result<[u8; 32], Memory>
     ensures { IfOk result (λ key. key ≡ signing_key secret.now date.now region.now) }
 {
     let mut key = Bytes::from_slice(alloc, b"AWS4")?;

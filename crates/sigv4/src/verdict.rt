@@ -14,11 +14,11 @@ use s3_names::Target;
 use sha2::{Digest, Sha256};
 use std::alloc::Global;
 
-const AUTHORIZATION: &[u8] = b"authorization";
+pub(crate) const AUTHORIZATION: &[u8] = b"authorization";
 
 const DATE: &[u8] = b"x-amz-date";
 
-const PAYLOAD: &[u8] = b"x-amz-content-sha256";
+pub(crate) const PAYLOAD: &[u8] = b"x-amz-content-sha256";
 
 /// Who sent a request at a moment, in seconds since 1970, by its Authorization header (Amazon S3 API Reference,
 /// "Authenticating requests: using the Authorization header"): without one `Anonymous`, and `Owner` where one of the keys
@@ -108,7 +108,7 @@ fn judge_claim_by_secret(
 }
 
 /// What the Authorization header says, where it is the only one and has the form.
-fn claim_of(alloc: Global, headers: &[Pair]) -> Result<Option<Authorization>, Memory>
+pub(crate) fn claim_of(alloc: Global, headers: &[Pair]) -> Result<Option<Authorization>, Memory>
     ensures { IfOk result (λ claim. claim ≡ claim_of headers.now) }
 {
     if has_single_header(headers, AUTHORIZATION) {
@@ -125,7 +125,7 @@ pub fn has_wrong_scope(region: &[u8], claim: &Authorization) -> bool
     !(claim.region.as_slice() == region && claim.service.as_slice() == b"s3".as_slice())
 }
 
-fn leaves_unsigned(claim: &Authorization, headers: &[Pair]) -> bool
+pub(crate) fn leaves_unsigned(claim: &Authorization, headers: &[Pair]) -> bool
     ensures { result ≡ leaves_unsigned claim.now headers.now }
 {
     !has_header(headers, b"host") || leaves_some_out(claim, headers)
@@ -165,7 +165,7 @@ pub fn time_of(headers: &[Pair]) -> &[u8]
     first_value(headers, DATE)
 }
 
-fn lacks_date(claim: &Authorization, headers: &[Pair]) -> bool
+pub(crate) fn lacks_date(claim: &Authorization, headers: &[Pair]) -> bool
     ensures { result ≡ lacks_date claim.now headers.now }
 {
     let time = time_of(headers);
@@ -207,7 +207,7 @@ fn is_unsigned_payload(hash: &[u8]) -> bool
 
 /// What the request signs to by a secret.
 #[tactic(auto, unfolding(crate::specs::Verdict::expected))]
-fn expected_signature(
+pub(crate) fn expected_signature(
     alloc: Global,
     secret: &[u8],
     region: &[u8],

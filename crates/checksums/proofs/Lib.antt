@@ -1,0 +1,6 @@
+pub mod BurstLemmas
+pub mod CheckValues
+pub mod RowLemmas
+pub mod ShiftLemmas
+pub mod SizeLemmas
+pub mod ValueLemmas

@@ -1,0 +1,5 @@
+use Rattle.checksums.specs.Rows.{IsFilledTo}
+use Rattle.checksums.proofs.crc.fill_first_crc_row.Given as goal
+
+abbrev pub invariant-loop-place : goal.invariant-loop-place
+invariant-loop-place l = IsFilledTo l.polynomial l.place l.table

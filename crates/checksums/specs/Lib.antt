@@ -1,0 +1,4 @@
+pub mod Crc
+pub mod Kinds
+pub mod Laws
+pub mod Rows

@@ -1,0 +1,14 @@
+pub mod Chains
+pub mod Commas
+pub mod Digits
+pub mod Law
+pub mod Lengths
+pub mod Loops
+pub mod Moves
+pub mod Pieces
+pub mod Prints
+pub mod Rows
+pub mod Scans
+pub mod Steady
+pub mod Tails
+pub mod lemmas

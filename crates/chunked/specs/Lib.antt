@@ -1,0 +1,10 @@
+pub mod Chunked
+pub mod Classes
+pub mod Encoding
+pub mod Forms
+pub mod Laws
+pub mod Print
+pub mod Reading
+pub mod Sent
+pub mod Signatures
+pub mod Views

@@ -1,0 +1,5 @@
+pub mod Checked
+pub mod Chunks
+pub mod Opened
+pub mod Refused
+pub mod Trailers
