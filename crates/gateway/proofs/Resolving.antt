@@ -1,5 +1,5 @@
 -- A message as it is resolved.
-use Rattle.std.proofs.Common.{◌≡◌, ◌≢◌, ℕ, Bool, true, false, cond, List, [], Option, None, Some, Result, Ok, Err, IfErr, codes, refl, sym, ap, subst}
+use Rattle.std.proofs.Common.{◌≡◌, ◌≢◌, ℕ, Bool, true, false, cond, List, [], Option, None, Some, Result, Ok, Err, IfErr, codes, refl, sym, ap, ◌∙◌, subst}
 use Rattle.gate_base.specs.declared.caller.Caller.{Caller}
 use Rattle.gate_base.specs.declared.caller.Caller.TheVariants.{Owner, Anonymous}
 use Rattle.s3_machine.specs.declared.code.Code.TheVariants.{AccessDenied, AuthorizationHeaderMalformed, AuthorizationQueryParametersError, InvalidAccessKeyId, InvalidRequest, InvalidURI, NotImplemented, RequestTimeTooSkewed, SignatureDoesNotMatch, XAmzContentSHA256Mismatch}
@@ -28,16 +28,22 @@ use Rattle.gateway.specs.declared.resolved.ResolvedRequest.{ResolvedRequest}
 use Rattle.s3_requests.specs.declared.meant.Meant.{Meant}
 use Rattle.s3_requests.specs.declared.meant.Meant.TheVariants.{Refused, Memory}
 use Rattle.gateway.specs.declared.service.Service.{Service}
-use Rattle.gateway.specs.Request.{raw_path, end_after, refused_by, refused_by_query, admitted, asked_target, caller_or_anonymous, caller_of, Verdict, by_header, by_query, verdict_at, Verifies, resolve_target, request_of, refused_request, code_of}
+use Rattle.s3_machine.specs.Limits.{body_limit}
+use Rattle.s3_requests.specs.Meaning.{meaning_of}
+use Rattle.chunked.specs.declared.form.ChunkedForm.{ChunkedForm}
+use Rattle.extended.specs.declared.sender.Sender.{Sender}
+use Rattle.extended.specs.Checked.{unchunked_sender, extended_meaning}
+use Rattle.extended.specs.Opened.{Opens}
+use Rattle.extended.specs.Refused.{refused_by}
+use Rattle.extended.proofs.lemmas.Checked.{extended_known, extended_proper}
+use Rattle.extended.proofs.lemmas.Opened.{opened_known, opened_proper}
+use Rattle.extended.proofs.lemmas.Refused.{known_if, refusal_known, gives_refusal, refused_proper}
+use Rattle.gateway.specs.Request.{raw_path, end_after, refused_by_query, admitted, asked_target, as_sent, caller_or_anonymous, caller_of, Verdict, Opening, by_header, by_query, opening_at, opening_by, sent_meaning, taken_form, verdict_at, Verifies, resolve_target, request_of, refused_request, code_of}
 use Rattle.gateway.specs.ResolvedRequest.{Is}
 use Rattle.s3_requests.specs.Proper.{IsProperCode, IsProperMeant}
 use Rattle.s3_requests.proofs.lemmas.Proper.{is_store_fault, proper_code, meaning_known, meaning_proper}
 
 -- ---- signatures
-
-known_if : (b : Bool) (refusal : Refusal) (rest : Result Caller Refusal) → refusal ≢ signature.Memory → rest ≢ Err signature.Memory → cond b (Err refusal) rest ≢ Err signature.Memory
-known_if true refusal rest one others = λ e. one (let same : refusal ≡ signature.Memory = cc in same)
-known_if false refusal rest one others = others
 
 -- no reason to refuse a signature is a lack of memory
 secret_known : (secret : Option (List ℕ)) (region : List ℕ) (message : Message) (target : Target) (moment : ℕ) (claim : Authorization)
@@ -67,38 +73,18 @@ unfolding caller_or_refusal
 caller_or_refusal_known keys region message target moment =
     claimed_known _ (judged keys region message target moment (claim_of message.headers)) (judged_known keys region message target moment (claim_of message.headers))
 
-refusal_known : (refusal : Refusal) → refusal ≢ signature.Memory → refused_by refusal ≢ Memory
-refusal_known signature.HeaderMalformed other = λ e. cc
-refusal_known signature.UnknownKey other = λ e. cc
-refusal_known signature.WrongScope other = λ e. cc
-refusal_known signature.UnsignedHeader other = λ e. cc
-refusal_known signature.NoDate other = λ e. cc
-refusal_known signature.Skewed other = λ e. cc
-refusal_known signature.Streaming other = λ e. cc
-refusal_known signature.NoPayloadHash other = λ e. cc
-refusal_known (signature.SignatureDiffers hash) other = λ e. cc
-refusal_known signature.PayloadDiffers other = λ e. cc
-refusal_known signature.Memory other = absurd (other refl)
+pub refused_means : (settings : Settings) (target : Target) (means : Meant) (due : Opening) (left : Message) → Opens due (Err means) left → means ≢ Memory → means ≡ admitted settings target due
+refused_means settings target means due left opens known = sym (ap (admitted settings target) (opens known))
 
--- a refusal that isn't a lack of memory is the one that is expected
-gives_refusal : (refusal : Refusal) (due : Result Caller Refusal) → Gives (Err refusal) due → refused_by refusal ≢ Memory → due ≡ Err refusal
-gives_refusal signature.HeaderMalformed due gives known = gives
-gives_refusal signature.UnknownKey due gives known = gives
-gives_refusal signature.WrongScope due gives known = gives
-gives_refusal signature.UnsignedHeader due gives known = gives
-gives_refusal signature.NoDate due gives known = gives
-gives_refusal signature.Skewed due gives known = gives
-gives_refusal signature.Streaming due gives known = gives
-gives_refusal signature.NoPayloadHash due gives known = gives
-gives_refusal (signature.SignatureDiffers hash) due gives known = gives
-gives_refusal signature.PayloadDiffers due gives known = gives
-gives_refusal signature.Memory due gives known = absurd (known refl)
+pub refused_caller : (means : Meant) (due : Opening) (left : Message) → Opens due (Err means) left → means ≢ Memory → Anonymous ≡ caller_or_anonymous due
+refused_caller means due left opens known = sym (ap caller_or_anonymous (opens known))
 
-pub refused_means : (settings : Settings) (message : Message) (target : Target) (means : Meant) (due : Verdict) → Verifies due (Err means) → means ≢ Memory → means ≡ admitted settings message target due
-refused_means settings message target means due verifies known = sym (ap (admitted settings message target) (verifies known))
+-- a message that is left as it was sent
+pub sent_unchunked : (message : Message) (due : Verdict) (caller : Caller) (sender : Sender) → Verifies due (Ok caller) → sender ≡ unchunked_sender caller → Opens (as_sent message due) (Ok sender) message
+sent_unchunked message due caller sender verifies is = ap (as_sent message) verifies ∙ ap (λ s. Ok (record { sender = s; message = message })) (sym is)
 
-pub refused_caller : (means : Meant) (due : Verdict) → Verifies due (Err means) → means ≢ Memory → Anonymous ≡ caller_or_anonymous due
-refused_caller means due verifies known = sym (ap caller_or_anonymous (verifies known))
+pub sent_refused : (message : Message) (due : Verdict) (means : Meant) → Verifies due (Err means) → Opens (as_sent message due) (Err means) message
+sent_refused message due means verifies = λ known. ap (as_sent message) (verifies known)
 
 pub refused_verifies : (refusal : Refusal) (due : Result Caller Refusal) → Gives (Err refusal) due → Verifies (by_header due) (Err (refused_by refusal))
 refused_verifies refusal due gives = λ known. ap by_header (gives_refusal refusal due gives known)
@@ -109,19 +95,6 @@ verified_first p first second given e verifies = subst (λ q. Verifies (cond q f
 
 pub verified_second : (p : Bool) (first second given : Verdict) → p ≡ false → Verifies second given → Verifies (cond p first second) given
 verified_second p first second given e verifies = subst (λ q. Verifies (cond q first second) given) (sym e) verifies
-
-pub refused_proper : (refusal : Refusal) → IsProperMeant (refused_by refusal)
-refused_proper signature.HeaderMalformed = proper_code AuthorizationHeaderMalformed refl
-refused_proper signature.UnknownKey = proper_code InvalidAccessKeyId refl
-refused_proper signature.WrongScope = proper_code AuthorizationHeaderMalformed refl
-refused_proper signature.UnsignedHeader = proper_code AccessDenied refl
-refused_proper signature.NoDate = proper_code AccessDenied refl
-refused_proper signature.Skewed = proper_code RequestTimeTooSkewed refl
-refused_proper signature.Streaming = proper_code NotImplemented refl
-refused_proper signature.NoPayloadHash = proper_code InvalidRequest refl
-refused_proper (signature.SignatureDiffers hash) = proper_code SignatureDoesNotMatch refl
-refused_proper signature.PayloadDiffers = proper_code XAmzContentSHA256Mismatch refl
-refused_proper signature.Memory = tt
 
 -- ---- signatures in the query
 
@@ -222,20 +195,51 @@ verdict_proper service moment message target =
     let in_header = caller_or_refusal service.keys service.settings.region message target moment in
     either (λ verdict. IfErr verdict IsProperMeant) (is_presigned target.query) (by_query in_query) (by_header in_header) (query_is_proper in_query) (header_proper in_header)
 
-admitted_known : (settings : Settings) (message : Message) (target : Target) (verdict : Verdict) → verdict ≢ Err Memory → admitted settings message target verdict ≢ Memory
-admitted_known settings message target (Ok caller) known = meaning_known settings message (asked_target target) caller
-admitted_known settings message target (Err means) known = λ e. known (ap Err e)
+as_sent_known : (message : Message) (verdict : Verdict) → verdict ≢ Err Memory → as_sent message verdict ≢ Err Memory
+as_sent_known message (Ok caller) known = λ e. cc
+as_sent_known message (Err means) known = λ e. known (ap Err (let same : means ≡ Memory = cc in same))
+
+opening_by_known : (form : Option ChunkedForm) (service : Service) (moment : ℕ) (message : Message) (target : Target) → opening_by form service moment message target ≢ Err Memory
+opening_by_known None service moment message target = as_sent_known message (verdict_at service moment message target) (verdict_known service moment message target)
+opening_by_known (Some form) service moment message target = opened_known service.keys service.settings.region (body_limit service.settings) form message target moment
+
+as_sent_proper : (message : Message) (verdict : Verdict) → IfErr verdict IsProperMeant → IfErr (as_sent message verdict) IsProperMeant
+as_sent_proper message (Ok caller) proper = tt
+as_sent_proper message (Err means) proper = proper
+
+opening_by_proper : (form : Option ChunkedForm) (service : Service) (moment : ℕ) (message : Message) (target : Target) → IfErr (opening_by form service moment message target) IsProperMeant
+opening_by_proper None service moment message target = as_sent_proper message (verdict_at service moment message target) (verdict_proper service moment message target)
+opening_by_proper (Some form) service moment message target = opened_proper service.keys service.settings.region (body_limit service.settings) form message target moment
+
+-- either meaning
+either_meant : (P : Meant → Type 0) (b : Bool) (one other : Meant) → P one → P other → P (cond b one other)
+either_meant P true one other p q = p
+either_meant P false one other p q = q
+
+sent_known : (settings : Settings) (message : Message) (target : Target) (sender : Sender) → sent_meaning settings message target sender ≢ Memory
+sent_known settings message target sender =
+    either_meant (λ means. means ≢ Memory) settings.extended (extended_meaning settings message target sender) (meaning_of settings message target sender.caller)
+    (extended_known settings message target sender) (meaning_known settings message target sender.caller)
+
+sent_proper : (settings : Settings) (message : Message) (target : Target) (sender : Sender) → IsProperMeant (sent_meaning settings message target sender)
+sent_proper settings message target sender =
+    either_meant IsProperMeant settings.extended (extended_meaning settings message target sender) (meaning_of settings message target sender.caller)
+    (extended_proper settings message target sender) (meaning_proper settings message target sender.caller)
+
+admitted_known : (settings : Settings) (target : Target) (opening : Opening) → opening ≢ Err Memory → admitted settings target opening ≢ Memory
+admitted_known settings target (Ok opened) known = sent_known settings opened.message (asked_target target) opened.sender
+admitted_known settings target (Err means) known = λ e. known (ap Err e)
 
 resolve_target_known : (service : Service) (moment : ℕ) (message : Message) (read : Result Target NameFault) → resolve_target service moment message read ≢ Memory
-resolve_target_known service moment message (Ok target) = admitted_known service.settings message target (verdict_at service moment message target) (verdict_known service moment message target)
+resolve_target_known service moment message (Ok target) = admitted_known service.settings target (opening_at service moment message target) (opening_by_known (taken_form service.settings message target) service moment message target)
 resolve_target_known service moment message (Err fault) = λ e. cc
 
-admitted_proper : (settings : Settings) (message : Message) (target : Target) (verdict : Verdict) → IfErr verdict IsProperMeant → IsProperMeant (admitted settings message target verdict)
-admitted_proper settings message target (Ok caller) proper = meaning_proper settings message (asked_target target) caller
-admitted_proper settings message target (Err means) proper = proper
+admitted_proper : (settings : Settings) (target : Target) (opening : Opening) → IfErr opening IsProperMeant → IsProperMeant (admitted settings target opening)
+admitted_proper settings target (Ok opened) proper = sent_proper settings opened.message (asked_target target) opened.sender
+admitted_proper settings target (Err means) proper = proper
 
 resolve_target_proper : (service : Service) (moment : ℕ) (message : Message) (read : Result Target NameFault) → IsProperMeant (resolve_target service moment message read)
-resolve_target_proper service moment message (Ok target) = admitted_proper service.settings message target (verdict_at service moment message target) (verdict_proper service moment message target)
+resolve_target_proper service moment message (Ok target) = admitted_proper service.settings target (opening_at service moment message target) (opening_by_proper (taken_form service.settings message target) service moment message target)
 resolve_target_proper service moment message (Err fault) = proper_code InvalidURI refl
 
 pub message_is : (resolved : ResolvedRequest) (service : Service) (moment : ℕ) (message : Message)

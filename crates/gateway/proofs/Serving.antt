@@ -38,7 +38,7 @@ heard_by so_far heard = record so_far { sent = heard }
 -- a request that was resolved was answered
 module _ (service : Service) (R : ReplyRelation) (connection : ℕ) where
   pub next_of : (old new : ConnectionCursor) (heard : List Piece) (asks : ℕ → Request) (ended : Option Ended) → ((moment : ℕ) → Resolves service moment old (asks moment) new.rest new.place)
-      → OwedIsSent connection old heard → HandledEnds R connection (heard_by old.progress heard) new.progress asks ended → NextOne service R connection old ended new
+      → OwedIsSent service connection old heard → HandledEnds R connection (heard_by old.progress heard) new.progress asks ended → NextOne service R connection old ended new
   next_of old new heard asks None resolves owed span = (span.span, record { request = asks span.label.moment; label = span.label; heard = heard; resolves = resolves span.label.moment; owed = owed; labels = span.labels; exchange = span.exchange })
   next_of old new heard asks (Some ended) resolves owed (inl span) =
       (span.span ∷ [], served new span.span (record { request = asks span.label.moment; label = span.label; heard = heard; resolves = resolves span.label.moment; owed = owed; labels = span.labels; exchange = span.exchange }) refl)
@@ -50,8 +50,8 @@ module _ (service : Service) (R : ReplyRelation) (connection : ℕ) where
 
 module _ (service : Service) (R : ReplyRelation) (here : StoreCursor) (moments draws : List ℕ) (begun : ℕ) (sent : List Piece) (pending pending' : Pending) (all rest : List ℕ) where
   -- what was read is a message
-  pub next_request : (transcript : Transcript) (message : Message) (left : List ℕ) (new : Progress) (ended : Option Ended) → GivesFirstMessage pending all (got.Request message) pending' left
-      → transcript.begun ≡ begun → SendsInterim (OwesInterim all) begun here.number sent transcript.sent → rest ≡ left
+  pub next_request : (transcript : Transcript) (message : Message) (left : List ℕ) (new : Progress) (ended : Option Ended) → GivesFirstMessage service.settings.largest_body pending all (got.Request message) pending' left
+      → transcript.begun ≡ begun → SendsInterim (OwesInterim service.settings.largest_body all) begun here.number sent transcript.sent → rest ≡ left
       → HandledEnds R transcript.begun (progress here moments draws transcript.sent) new (asks_of service (received.Message message)) ended
       → NextOne service R begun (cursor all pending.place (progress here moments draws sent)) ended (cursor rest pending'.place new)
   next_request transcript message left new ended gives b owed r span =
@@ -60,8 +60,8 @@ module _ (service : Service) (R : ReplyRelation) (here : StoreCursor) (moments d
       (λ moment. read message gives.0 gives.2 refl (r ∙ gives.3) gives.4) owed (subst P b span)
 
   -- what was read is refused
-  pub next_refused : (transcript : Transcript) (kind : Kind) (place : ℕ) (head : Bool) (left : List ℕ) (new : Progress) (ended : Option Ended) → GivesFirstMessage pending all (got.Refused kind place head) pending' left
-      → transcript.begun ≡ begun → SendsInterim (OwesInterim all) begun here.number sent transcript.sent → rest ≡ left
+  pub next_refused : (transcript : Transcript) (kind : Kind) (place : ℕ) (head : Bool) (left : List ℕ) (new : Progress) (ended : Option Ended) → GivesFirstMessage service.settings.largest_body pending all (got.Refused kind place head) pending' left
+      → transcript.begun ≡ begun → SendsInterim (OwesInterim service.settings.largest_body all) begun here.number sent transcript.sent → rest ≡ left
       → HandledEnds R transcript.begun (progress here moments draws transcript.sent) new (asks_of service (received.Refused kind place head)) ended
       → NextOne service R begun (cursor all pending.place (progress here moments draws sent)) ended (cursor rest pending'.place new)
   next_refused transcript kind place head left new ended gives b owed r span =
@@ -73,12 +73,12 @@ module _ (service : Service) (R : ReplyRelation) (here : StoreCursor) (moments d
   same_progress sent' e = ap (progress here moments draws) e
 
   -- nothing is owed for what no request begins, so nothing was sent
-  unowed : (front : FirstMessage) (sent' : List Piece) → BeginsWith all front → (IsOwedFirst all front → ⊥) → SendsInterim (OwesInterim all) begun here.number sent sent' → sent' ≡ sent
-  unowed front sent' first never (inl (owes, e)) = absurd (never ((owed_first all front first).0 owes))
+  unowed : (front : FirstMessage) (sent' : List Piece) → BeginsWith service.settings.largest_body all front → (IsOwedFirst service.settings.largest_body all front → ⊥) → SendsInterim (OwesInterim service.settings.largest_body all) begun here.number sent sent' → sent' ≡ sent
+  unowed front sent' first never (inl (owes, e)) = absurd (never ((owed_first service.settings.largest_body all front first).0 owes))
   unowed front sent' first never (inr (not, e)) = e
 
   -- no byte was left
-  pub next_end : (sent' : List Piece) (left : List ℕ) → pending.ended ≡ false → GivesFirstMessage pending all got.End pending' left → SendsInterim (OwesInterim all) begun here.number sent sent'
+  pub next_end : (sent' : List Piece) (left : List ℕ) → pending.ended ≡ false → GivesFirstMessage service.settings.largest_body pending all got.End pending' left → SendsInterim (OwesInterim service.settings.largest_body all) begun here.number sent sent'
       → NextOne service R begun (cursor all pending.place (progress here moments draws sent)) (Some End) (cursor rest pending'.place (progress here moments draws sent'))
   next_end sent' left goes gives owed = elim gives.0 [
     | inl ended ↦ absurd (let no : true ≡ false = sym ended ∙ goes in cc)
@@ -86,17 +86,17 @@ module _ (service : Service) (R : ReplyRelation) (here : StoreCursor) (moments d
   ]
 
   -- the bytes ended inside a head
-  pub next_cut : (place : ℕ) (sent' : List Piece) (left : List ℕ) → GivesFirstMessage pending all (got.CutShort place) pending' left → SendsInterim (OwesInterim all) begun here.number sent sent'
+  pub next_cut : (place : ℕ) (sent' : List Piece) (left : List ℕ) → GivesFirstMessage service.settings.largest_body pending all (got.CutShort place) pending' left → SendsInterim (OwesInterim service.settings.largest_body all) begun here.number sent sent'
       → NextOne service R begun (cursor all pending.place (progress here moments draws sent)) (Some (CutShort place)) (cursor rest pending'.place (progress here moments draws sent'))
   next_cut place sent' left gives owed = ([], cut (ap CutShort gives.2) gives.1 (same_progress sent' (unowed cut_short sent' gives.1 (λ first. first) owed)))
 
   -- the line failed while a request was read
-  pub next_failed : (sent' : List Piece) → CutsInterim (OwesInterim all) begun here.number sent sent'
+  pub next_failed : (sent' : List Piece) → CutsInterim (OwesInterim service.settings.largest_body all) begun here.number sent sent'
       → NextOne service R begun (cursor all pending.place (progress here moments draws sent)) (Some LineFailed) (cursor rest pending'.place (progress here moments draws sent'))
   next_failed sent' owed = ([], unheard refl (record { store = refl; moments = refl; draws = refl }) owed)
 
   -- memory ran out while a request was read
-  pub next_unread : (transcript transcript' : Transcript) (ended : Ended) → transcript.begun ≡ begun → MaySendInterim (OwesInterim all) begun here.number sent transcript.sent → EndsUnread here.number transcript ended transcript'
+  pub next_unread : (transcript transcript' : Transcript) (ended : Ended) → transcript.begun ≡ begun → MaySendInterim (OwesInterim service.settings.largest_body all) begun here.number sent transcript.sent → EndsUnread here.number transcript ended transcript'
       → NextOne service R begun (cursor all pending.place (progress here moments draws sent)) (Some ended) (cursor rest pending'.place (progress here moments draws transcript'.sent))
   next_unread transcript transcript' End b owed ends = absurd ends
   next_unread transcript transcript' Closed b owed ends = absurd ends

@@ -42,9 +42,9 @@ cursor rest place so_far = record { rest = rest; place = place; progress = so_fa
 
 -- the request that stands first, as it is resolved at a moment, and what is left behind it
 pub data Resolves (service : Service) (moment : ℕ) (old : ConnectionCursor) (request : Request) (rest : List ℕ) (place : ℕ) : Type 0 where
-  read : (message : Message) (size : ℕ) → BeginsWith old.rest (asks message size) → request ≡ request_of service moment message
+  read : (message : Message) (size : ℕ) → BeginsWith service.settings.largest_body old.rest (asks message size) → request ≡ request_of service moment message
       → rest ≡ drop size old.rest → place ≡ place_after old.place size → Resolves service moment old request rest place
-  rejected : (kind : Kind) (head : Bool) → BeginsWith old.rest (refused kind head) → request ≡ refused_request kind old.place head
+  rejected : (kind : Kind) (head : Bool) → BeginsWith service.settings.largest_body old.rest (refused kind head) → request ≡ refused_request kind old.place head
       → rest ≡ old.rest → place ≡ old.place → Resolves service moment old request rest place
 
 -- the label of a request: its caller, the next moment, and the next two draws as its id and its word of chance
@@ -71,16 +71,16 @@ abbrev pub Labels : Progress → Progress → Caller → Label → Type 0
 Labels old new from label = LabelGiven old.moments old.draws new.moments new.draws from label
 
 -- the interim line was sent for what comes first, before any call for it, exactly where it is owed
-abbrev pub OwedIsSent : ℕ → ConnectionCursor → List Piece → Type 0
-OwedIsSent connection old heard = SendsInterim (OwesInterim old.rest) connection old.progress.store.number old.progress.sent heard
+abbrev pub OwedIsSent : Service → ℕ → ConnectionCursor → List Piece → Type 0
+OwedIsSent service connection old heard = SendsInterim (OwesInterim service.settings.largest_body old.rest) connection old.progress.store.number old.progress.sent heard
 
 -- memory ran out while the first was read: the line was sent, or not, where it is owed
-abbrev pub OwedMayBeSent : ℕ → ConnectionCursor → List Piece → Type 0
-OwedMayBeSent connection old heard = MaySendInterim (OwesInterim old.rest) connection old.progress.store.number old.progress.sent heard
+abbrev pub OwedMayBeSent : Service → ℕ → ConnectionCursor → List Piece → Type 0
+OwedMayBeSent service connection old heard = MaySendInterim (OwesInterim service.settings.largest_body old.rest) connection old.progress.store.number old.progress.sent heard
 
 -- the line failed while the first was read: first bytes of it were sent, or none, where it is owed
-abbrev pub OwedIsCut : ℕ → ConnectionCursor → List Piece → Type 0
-OwedIsCut connection old heard = CutsInterim (OwesInterim old.rest) connection old.progress.store.number old.progress.sent heard
+abbrev pub OwedIsCut : Service → ℕ → ConnectionCursor → List Piece → Type 0
+OwedIsCut service connection old heard = CutsInterim (OwesInterim service.settings.largest_body old.rest) connection old.progress.store.number old.progress.sent heard
 
 -- the next request was resolved and answered in whole
 pub record Serves (service : Service) (R : ReplyRelation) (connection : ℕ) (end : Option Ended)
@@ -90,7 +90,7 @@ pub record Serves (service : Service) (R : ReplyRelation) (connection : ℕ) (en
   -- the pieces sent once it was read
   pub heard : List Piece
   pub resolves : Resolves service label.moment old request new.rest new.place
-  pub owed : OwedIsSent connection old heard
+  pub owed : OwedIsSent service connection old heard
   pub labels : Labels old.progress new.progress request.caller label
   pub exchange : Exchange R connection old.progress.store span new.progress.store request label end heard new.progress.sent
 
@@ -109,7 +109,7 @@ pub record Breaks (service : Service) (R : ReplyRelation) (connection : ℕ) (ol
   pub place : ℕ
   pub heard : List Piece
   pub resolves : Resolves service label.moment old request rest place
-  pub owed : OwedIsSent connection old heard
+  pub owed : OwedIsSent service connection old heard
   pub labels : Labels old.progress new request.caller label
   pub exchange : CutExchange R connection old.progress.store span new.store request label heard new.sent
 
@@ -121,7 +121,7 @@ pub record Parts (service : Service) (R : ReplyRelation) (connection : ℕ) (end
   pub place : ℕ
   pub heard : List Piece
   pub resolves : Resolves service label.moment old request rest place
-  pub owed : OwedIsSent connection old heard
+  pub owed : OwedIsSent service connection old heard
   pub labels : Labels old.progress new request.caller label
   pub exchange : PartExchange R connection old.progress.store span new.store request label ended heard new.sent
 
@@ -134,20 +134,20 @@ pub record OnlySent (old new : Progress) : Type 0 where
 -- how a connection ends, from the last point before its end, with the span of a request that ends it
 pub data Ends (service : Service) (R : ReplyRelation) (connection : ℕ) (ended : Ended) (last : ConnectionCursor) (new : Progress) : List Span → Type 0 where
   -- no byte is left
-  over : ended ≡ End → BeginsWith last.rest nothing → new ≡ last.progress → Ends service R connection ended last new []
+  over : ended ≡ End → BeginsWith service.settings.largest_body last.rest nothing → new ≡ last.progress → Ends service R connection ended last new []
   -- the bytes end inside a head
-  cut : ended ≡ CutShort last.place → BeginsWith last.rest cut_short → new ≡ last.progress → Ends service R connection ended last new []
+  cut : ended ≡ CutShort last.place → BeginsWith service.settings.largest_body last.rest cut_short → new ≡ last.progress → Ends service R connection ended last new []
   -- a reply ended it
   served : (cursor : ConnectionCursor) (span : Span) → Serves service R connection (Some ended) last span cursor
       → new ≡ cursor.progress → Ends service R connection ended last new (span ∷ [])
   -- memory ran out while a request was read
-  unread : (heard : List Piece) → ended ≡ Memory → OnlySent last.progress new → OwedMayBeSent connection last heard
+  unread : (heard : List Piece) → ended ≡ Memory → OnlySent last.progress new → OwedMayBeSent service connection last heard
       → Sends connection last.progress.store.number last.progress.store.number (memory_reply false) heard new.sent
       → Ends service R connection ended last new []
   -- the line failed while a request was read
-  unheard : ended ≡ LineFailed → OnlySent last.progress new → OwedIsCut connection last new.sent → Ends service R connection ended last new []
+  unheard : ended ≡ LineFailed → OnlySent last.progress new → OwedIsCut service connection last new.sent → Ends service R connection ended last new []
   -- memory ran out while a request was read, and the line failed under the reply for that
-  untold : (heard : List Piece) → ended ≡ LineFailed → OnlySent last.progress new → OwedMayBeSent connection last heard
+  untold : (heard : List Piece) → ended ≡ LineFailed → OnlySent last.progress new → OwedMayBeSent service connection last heard
       → SendsPart connection last.progress.store.number last.progress.store.number (memory_reply false) heard new.sent
       → Ends service R connection ended last new []
   -- the line failed under the reply to a request

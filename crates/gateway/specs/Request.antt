@@ -1,16 +1,17 @@
 -- A request as it is answered, whether it was read as a message or refused before. Source: this profile.
-use Rattle.std.specs.Prelude.{◌≡◌, ◌≢◌, ℕ, Bool, cond, if◌then◌else◌, is_some, ◌==◌, List, [], Option, None, Some, Result, Ok, Err, codes}
+use Rattle.std.specs.Prelude.{◌≡◌, ◌≢◌, ℕ, Bool, not, ◌&&◌, cond, if◌then◌else◌, is_some, ◌==◌, List, [], Option, None, Some, Result, Ok, Err, codes}
 use Rattle.std.specs.List.{before_first}
 use Rattle.gate_base.specs.declared.caller.Caller.{Caller}
 use Rattle.gate_base.specs.declared.caller.Caller.TheVariants.{Anonymous}
 use Rattle.s3_machine.specs.declared.code.Code.{Code}
-use Rattle.s3_machine.specs.declared.code.Code.TheVariants.{AccessDenied, AuthorizationHeaderMalformed, AuthorizationQueryParametersError}
+use Rattle.s3_machine.specs.declared.code.Code.TheVariants.{AccessDenied, AuthorizationQueryParametersError}
 use Rattle.s3_machine.specs.declared.code.Code.TheVariants.{EntityTooLarge, IncompleteBody}
 use Rattle.s3_machine.specs.declared.code.Code.TheVariants.{InvalidAccessKeyId, InvalidRequest, InvalidURI, MissingContentLength, NotImplemented}
-use Rattle.s3_machine.specs.declared.code.Code.TheVariants.{RequestTimeTooSkewed, SignatureDoesNotMatch, XAmzContentSHA256Mismatch}
+use Rattle.s3_machine.specs.declared.code.Code.TheVariants.{SignatureDoesNotMatch}
 use Rattle.s3_machine.specs.declared.operation.Label.{Label}
 use Rattle.s3_machine.specs.declared.operation.Reply.{Reply}
 use Rattle.s3_machine.specs.declared.operation.Settings.{Settings}
+use Rattle.s3_machine.specs.Limits.{body_limit}
 use Rattle.s3_names.specs.declared.fault.NameFault.{NameFault}
 use Rattle.s3_names.specs.declared.target.Target.{Target}
 use Rattle.s3_names.specs.Target.{target_of}
@@ -21,13 +22,17 @@ use Rattle.http_wire.specs.Closing.{is_closing}
 use Rattle.http_wire.specs.Print.{page_text}
 use Rattle.s3_pages.specs.Pages.{page_of}
 use Rattle.sigv4.specs.declared.refusal.Refusal.{Refusal}
-use Rattle.sigv4.specs.declared.refusal.Refusal.TheVariants.{HeaderMalformed, UnknownKey, WrongScope, UnsignedHeader, NoDate, Skewed, Streaming}
-use Rattle.sigv4.specs.declared.refusal.Refusal.TheVariants.{NoPayloadHash, SignatureDiffers, PayloadDiffers, Memory}
 use Rattle.sigv4.specs.Verdict.{caller_or_refusal}
 use Rattle.presign.specs.Parameters.{is_presigned, without_signature}
 use Rattle.presign.specs.Verdict.{owner_or_refusal}
 use Rattle.presign.specs.declared.refusal.QueryRefusal.{QueryRefusal}
 use Rattle.presign.specs.declared.refusal.QueryRefusal.TheVariants as url
+use Rattle.chunked.specs.declared.form.ChunkedForm.{ChunkedForm}
+use Rattle.extended.specs.declared.sender.Sender.{Sender}
+use Rattle.extended.specs.Chunks.{chunked_form}
+use Rattle.extended.specs.Opened.{Opened, opened}
+use Rattle.extended.specs.Checked.{unchunked_sender, extended_meaning}
+use Rattle.extended.specs.Refused.{refused_by}
 use Rattle.gateway.specs.declared.ended.Ended.{Ended}
 use Rattle.gateway.specs.declared.ended.Ended.TheVariants.{Closed, Refused}
 use Rattle.s3_requests.specs.declared.meant.Meant.{Meant}
@@ -54,20 +59,6 @@ is_question_mark byte = byte == 63
 abbrev pub raw_path : List ℕ → List ℕ
 raw_path target = before_first is_question_mark target
 
--- what a request is answered whose signature is refused
-abbrev pub refused_by : Refusal → Meant
-refused_by HeaderMalformed = meant.Refused AuthorizationHeaderMalformed
-refused_by UnknownKey = meant.Refused InvalidAccessKeyId
-refused_by WrongScope = meant.Refused AuthorizationHeaderMalformed
-refused_by UnsignedHeader = meant.Refused AccessDenied
-refused_by NoDate = meant.Refused AccessDenied
-refused_by Skewed = meant.Refused RequestTimeTooSkewed
-refused_by Streaming = meant.Refused NotImplemented
-refused_by NoPayloadHash = meant.Refused InvalidRequest
-refused_by (SignatureDiffers hash) = meant.Refused SignatureDoesNotMatch
-refused_by PayloadDiffers = meant.Refused XAmzContentSHA256Mismatch
-refused_by Memory = meant.Memory
-
 -- what a presigned request is answered whose signature is refused
 abbrev pub refused_by_query : QueryRefusal → Meant
 refused_by_query url.QueryMalformed = meant.Refused AuthorizationQueryParametersError
@@ -82,6 +73,10 @@ refused_by_query url.Memory = meant.Memory
 -- what the verification of a request comes to: who sent it, or what it is answered
 abbrev pub Verdict : Type 0
 Verdict = Result Caller Meant
+
+-- with the message as its meaning is found
+abbrev pub Opening : Type 0
+Opening = Result Opened Meant
 
 abbrev pub by_header : Result Caller Refusal → Verdict
 by_header (Ok caller) = Ok caller
@@ -107,31 +102,57 @@ abbrev pub Verifies : Verdict → Verdict → Type 0
 Verifies due (Ok caller) = due ≡ Ok caller
 Verifies due (Err means) = means ≢ meant.Memory → due ≡ Err means
 
--- what a request means by who sent it
-abbrev pub admitted : Settings → Message → Target → Verdict → Meant
-admitted settings message target (Ok caller) = meaning_of settings message (asked_target target) caller
-admitted settings message target (Err means) = means
+-- the form in which the body of a request comes in chunks, where the settings are extended and it isn't presigned
+abbrev pub taken_form : Settings → Message → Target → Option ChunkedForm
+taken_form settings message target =
+    if settings.extended && not (is_presigned target.query) then chunked_form message.headers else None
 
--- who sent a request, an anonymous caller where its signature is refused
-abbrev pub caller_or_anonymous : Verdict → Caller
-caller_or_anonymous (Ok caller) = caller
+-- a message as it was sent, and who sent it
+abbrev pub as_sent : Message → Verdict → Opening
+as_sent message (Ok caller) = Ok (record { sender = unchunked_sender caller; message = message })
+as_sent message (Err means) = Err means
+
+-- by the form of its body: as it was sent, or opened
+abbrev pub opening_by : Option ChunkedForm → Service → ℕ → Message → Target → Opening
+opening_by None service moment message target = as_sent message (verdict_at service moment message target)
+opening_by (Some form) service moment message target =
+    opened service.keys service.settings.region (body_limit service.settings) form message target moment
+
+-- who sent a request, and the message as its meaning is found, or what it is answered
+abbrev pub opening_at : Service → ℕ → Message → Target → Opening
+opening_at service moment message target = opening_by (taken_form service.settings message target) service moment message target
+
+-- what a message means that this sender sent: where the settings are extended, by its checksums too
+abbrev pub sent_meaning : Settings → Message → Target → Sender → Meant
+sent_meaning settings message target sender =
+    if settings.extended then extended_meaning settings message target sender else meaning_of settings message target sender.caller
+
+-- what a request means by who sent it
+abbrev pub admitted : Settings → Target → Opening → Meant
+admitted settings target (Ok opened) = sent_meaning settings opened.message (asked_target target) opened.sender
+admitted settings target (Err means) = means
+
+-- who sent a request, an anonymous caller where it is refused for its signature or its body
+abbrev pub caller_or_anonymous : Opening → Caller
+caller_or_anonymous (Ok opened) = opened.sender.caller
 caller_or_anonymous (Err means) = Anonymous
 
 -- what a request means by how its target is read: one that can't be read is no URI of this service
 abbrev pub resolve_target : Service → ℕ → Message → Result Target NameFault → Meant
-resolve_target service moment message (Ok target) = admitted service.settings message target (verdict_at service moment message target)
+resolve_target service moment message (Ok target) = admitted service.settings target (opening_at service moment message target)
 resolve_target service moment message (Err fault) = meant.Refused InvalidURI
 
 -- who sent it, likewise
 abbrev pub caller_of : Service → ℕ → Message → Result Target NameFault → Caller
-caller_of service moment message (Ok target) = caller_or_anonymous (verdict_at service moment message target)
+caller_of service moment message (Ok target) = caller_or_anonymous (opening_at service moment message target)
 caller_of service moment message (Err fault) = Anonymous
 
 -- how the connection ends after the reply to a message, if it does
 abbrev pub end_after : Message → Option Ended
 end_after message = cond (is_closing message) (Some Closed) None
 
--- a request that was read, at its moment: first its target is, then its signature is verified, and then its meaning is found
+-- a request that was read, at its moment: first its target is, then its signature is verified, then its body is opened where it
+-- comes in chunks and the settings are extended, and then its meaning is found
 abbrev pub request_of : Service → ℕ → Message → Request
 request_of service moment message = record {
   caller = caller_of service moment message (target_of message.target);

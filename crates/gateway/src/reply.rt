@@ -12,7 +12,7 @@ ghost use Rattle.planner.specs.Reading.{LeavesBytes, ReadsBytes};
 ghost use Rattle.gateway.specs.Exchange.{AsksBytes};
 ghost use Rattle.gateway.specs.Reading.{PerformsOrFinds, IsReady, OperatedOrReads, RepliedOrReads};
 
-use account_calls::{Known, Settled, is_many, is_upload};
+use account_calls::{Known, PlansOf, Settled, plans_of};
 use gate_base::drop;
 use planner::Reading;
 use recovery::{SettleFault, Unsure};
@@ -124,24 +124,22 @@ fn perform<W: Swift>(alloc: Global, state: &mut Settled<'_, W>, op: Op, label: &
         result.reading }
     ensures leaves { ReadsBytes op → LeavesBytes result.reading }
 {
-    if is_upload(&op) {
-        let replied = plan_uploads::answer(alloc, state, op, label);
-        return Performed {
-            reading: Reading::Whole(replied.reply),
-            known: replied.known,
-        };
-    }
-    if is_many(&op) {
-        let reply = many_keys::answer(alloc, state, op, label);
-        return Performed {
-            reading: Reading::Whole(reply),
+    match plans_of(&op) {
+        PlansOf::One => Performed {
+            reading: planner::answer(alloc, state, op, label),
             known: Known::Settled,
-        };
-    }
-    let reading = planner::answer(alloc, state, op, label);
-    Performed {
-        reading,
-        known: Known::Settled,
+        },
+        PlansOf::Uploads => {
+            let replied = plan_uploads::answer(alloc, state, op, label);
+            Performed {
+                reading: Reading::Whole(replied.reply),
+                known: replied.known,
+            }
+        }
+        PlansOf::Many => Performed {
+            reading: Reading::Whole(many_keys::answer(alloc, state, op, label)),
+            known: Known::Settled,
+        },
     }
 }
 

@@ -2,26 +2,29 @@
 ghost use Rattle.std.specs.Prelude.{◌≡◌, ◌≢◌, false, cond, codes, [], Some, position, IfSome, IfOk, IfErr, ◌<◌, length, true};
 ghost use Rattle.gate_base.specs.declared.caller.Caller.TheVariants.{Anonymous as anonymous};
 ghost use Rattle.s3_names.specs.Target.{target_of};
-ghost use Rattle.s3_requests.specs.Meaning.{KeepsFront, meaning_of};
+ghost use Rattle.s3_requests.specs.Meaning.{KeepsFront};
+ghost use Rattle.extended.specs.Opened.{Opens};
 ghost use Rattle.sigv4.specs.Verdict.{caller_or_refusal};
 ghost use Rattle.presign.specs.Parameters.{is_presigned};
 ghost use Rattle.presign.specs.Verdict.{owner_or_refusal};
 ghost use Rattle.gateway.specs.ResolvedRequest.{Is};
 ghost use Rattle.s3_requests.specs.Proper.{IsProperMeant};
-ghost use Rattle.gateway.specs.Request.{raw_path, end_after, resolve_target, admitted, asked_target, caller_of, caller_or_anonymous, by_header, by_query, verdict_at, Verifies, refused_by, refused_by_query, request_of, refused_request, asks_of, end_of, code_of, is_question_mark};
+ghost use Rattle.gateway.specs.Request.{raw_path, end_after, resolve_target, admitted, asked_target, as_sent, caller_of, caller_or_anonymous, by_header, by_query, opening_at, sent_meaning, taken_form, verdict_at, Verifies, refused_by_query, request_of, refused_request, asks_of, end_of, code_of, is_question_mark};
 ghost use Rattle.gateway.specs.Serving.{is_failed_step};
 ghost use Rattle.gateway.specs.declared.ended.Ended.TheVariants as ended;
 ghost use Rattle.s3_requests.specs.declared.meant.Meant.TheVariants as variant;
 
 use crate::received::Received;
 use crate::{Ended, ResolvedRequest, Service};
+use chunked::ChunkedForm;
+use extended::{Sender, chunked_form, extended_meaning, open_chunked, refused_by};
 use gate_base::{Caller, Memory};
 use http_wire::{Kind, Message, closes};
 use presign::{QueryRefusal, is_presigned, verify_query, without_signature};
 use s3_machine::{Code, Settings};
 use s3_names::{NameFault, Target};
 use s3_requests::{Meant, meaning};
-use sigv4::{Refusal, verify};
+use sigv4::verify;
 use std::alloc::Global;
 
 /// What was received, as it is answered at that moment. A body moves into its operation.
@@ -130,18 +133,16 @@ fn verify_and_understand(
     moment: u64,
 ) -> Understood
     ensures proper { IsProperMeant result.means }
-    ensures means { result.means ≢ variant.Memory
-        → result.means ≡ admitted service.now.settings message.entry.now target
-        (verdict_at service.now moment message.entry.now target) }
-    ensures caller { result.means ≢ variant.Memory
-        → result.caller ≡ caller_or_anonymous
-        (verdict_at service.now moment message.entry.now target) }
+    ensures means { result.means ≢ variant.Memory → result.means ≡ admitted service.now.settings target
+        (opening_at service.now moment message.entry.now target) }
+    ensures caller { result.means ≢ variant.Memory → result.caller ≡ caller_or_anonymous
+        (opening_at service.now moment message.entry.now target) }
     ensures keeps { KeepsFront message.entry.now message.exit.now }
 {
-    match verified_caller(alloc, service, message, &target, moment) {
-        Ok(caller) => Understood {
-            caller,
-            means: meaning_for_caller(alloc, message, target, &caller, &service.settings),
+    match sender_of(alloc, service, message, &target, moment) {
+        Ok(sender) => Understood {
+            caller: sender.caller,
+            means: meaning_for_sender(alloc, message, target, &sender, &service.settings),
         },
         Err(means) => Understood {
             caller: Caller::Anonymous,
@@ -150,22 +151,41 @@ fn verify_and_understand(
     }
 }
 
-/// What a request of that caller means. The names of a signature in the query don't count.
-fn meaning_for_caller(
+/// What a request of that sender means. The names of a signature in the query don't count.
+fn meaning_for_sender(
     alloc: Global,
     message: &mut Message,
     target: Target,
-    caller: &Caller,
+    sender: &Sender,
     settings: &Settings,
 ) -> Meant
     ensures value { result ≢ variant.Memory
-        → result ≡ meaning_of settings.now message.entry.now (asked_target target) caller.now }
+        → result ≡ sent_meaning settings.now message.entry.now (asked_target target) sender.now }
     ensures proper { IsProperMeant result }
     ensures keeps { KeepsFront message.entry.now message.exit.now }
 {
     match asked_target(alloc, target) {
-        Ok(target) => meaning(alloc, message, &target, caller, settings),
+        Ok(target) => sent_meaning(alloc, message, &target, sender, settings),
         Err(_) => Meant::Memory,
+    }
+}
+
+fn sent_meaning(
+    alloc: Global,
+    message: &mut Message,
+    target: &Target,
+    sender: &Sender,
+    settings: &Settings,
+) -> Meant
+    ensures value { result ≢ variant.Memory
+        → result ≡ sent_meaning settings.now message.entry.now target.now sender.now }
+    ensures proper { IsProperMeant result }
+    ensures keeps { KeepsFront message.entry.now message.exit.now }
+{
+    if settings.extended {
+        extended_meaning(alloc, message, target, sender, settings)
+    } else {
+        meaning(alloc, message, target, &sender.caller, settings)
     }
 }
 
@@ -177,6 +197,68 @@ fn asked_target(alloc: Global, target: Target) -> Result<Target, Memory>
     }
     let query = without_signature(alloc, &target.query)?;
     Ok(Target { query, ..target })
+}
+
+/// Who sent a request, or what it is answered whose signature or body is refused. A message is opened whose body comes in chunks,
+/// where the service takes such.
+fn sender_of(
+    alloc: Global,
+    service: &Service,
+    message: &mut Message,
+    target: &Target,
+    moment: u64,
+) -> Result<Sender, Meant>
+    ensures opens { Opens (opening_at service.now moment message.entry.now target.now) result message.exit.now }
+    ensures proper { IfErr result IsProperMeant }
+    ensures keeps { KeepsFront message.entry.now message.exit.now }
+{
+    let settings = &service.settings;
+    match taken_form(settings, message, target) {
+        Some(form) => {
+            let region = settings.region.as_slice();
+            let largest = settings.body_limit();
+            open_chunked(
+                alloc,
+                &service.keys,
+                region,
+                largest,
+                form,
+                message,
+                target,
+                moment,
+            )
+        }
+        None => unchunked_sender_of(alloc, service, message, target, moment),
+    }
+}
+
+/// The form in which the body comes in chunks, where the settings are extended and the request isn't presigned.
+fn taken_form(settings: &Settings, message: &Message, target: &Target) -> Option<ChunkedForm>
+    ensures { result ≡ taken_form settings.now message.now target.now }
+{
+    if settings.extended && !is_presigned(target) {
+        chunked_form(message.headers.as_slice())
+    } else {
+        None
+    }
+}
+
+#[tactic(auto, using(crate::proofs::Resolving::sent_unchunked, crate::proofs::Resolving::sent_refused))]
+fn unchunked_sender_of(
+    alloc: Global,
+    service: &Service,
+    message: &Message,
+    target: &Target,
+    moment: u64,
+) -> Result<Sender, Meant>
+    ensures opens { Opens (as_sent message.now (verdict_at service.now moment message.now target.now))
+        result message.now }
+    ensures proper { IfErr result IsProperMeant }
+{
+    match verified_caller(alloc, service, message, target, moment) {
+        Ok(caller) => Ok(Sender::unchunked(alloc, caller)),
+        Err(means) => Err(means),
+    }
 }
 
 /// Who sent a request, or what it is answered whose signature is refused: that in its query where it is presigned, and else
@@ -219,7 +301,7 @@ fn verified_caller_by_query(
     }
 }
 
-#[tactic(auto, using(crate::proofs::Resolving::refused_verifies, crate::proofs::Resolving::refused_proper))]
+#[tactic(auto, using(crate::proofs::Resolving::refused_verifies, extended::proofs::lemmas::Refused::refused_proper))]
 fn verified_caller_by_header(
     alloc: Global,
     service: &Service,
@@ -235,25 +317,6 @@ fn verified_caller_by_header(
     match verify(alloc, &service.keys, region, message, target, moment) {
         Ok(caller) => Ok(caller),
         Err(refusal) => Err(refused_by(refusal)),
-    }
-}
-
-/// What a request is answered whose signature is refused.
-fn refused_by(refusal: Refusal) -> Meant
-    ensures { result ≡ refused_by refusal }
-{
-    match refusal {
-        Refusal::HeaderMalformed | Refusal::WrongScope => {
-            Meant::Refused(Code::AuthorizationHeaderMalformed)
-        }
-        Refusal::UnknownKey => Meant::Refused(Code::InvalidAccessKeyId),
-        Refusal::UnsignedHeader | Refusal::NoDate => Meant::Refused(Code::AccessDenied),
-        Refusal::Skewed => Meant::Refused(Code::RequestTimeTooSkewed),
-        Refusal::Streaming => Meant::Refused(Code::NotImplemented),
-        Refusal::NoPayloadHash => Meant::Refused(Code::InvalidRequest),
-        Refusal::SignatureDiffers(_) => Meant::Refused(Code::SignatureDoesNotMatch),
-        Refusal::PayloadDiffers => Meant::Refused(Code::XAmzContentSHA256Mismatch),
-        Refusal::Memory => Meant::Memory,
     }
 }
 

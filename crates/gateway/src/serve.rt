@@ -19,7 +19,8 @@ use http_wire::{Got, ReadFault, Reader};
 use std::alloc::Global;
 use swift_calls::Swift;
 
-/// Serves one open connection to its end: its requests are resolved and answered in order. After the first that ends the
+/// Serves one open connection to its end: its requests, with bodies of at most `largest_body` bytes by the settings, are
+/// resolved and answered in order. After the first that ends the
 /// connection, and where the line fails or memory runs out while a request is read, no more is read of it.
 ///
 /// `known`, whether a completion may be sealed on the store, goes from one connection to the next. It is true of a store that
@@ -90,7 +91,7 @@ fn serve_next<N: Line<W>, W: Swift, C: Clock, D: Draws>(
         (D.model draws.old)) (world (N.model line.new) (W.history store.new) known.new
         (C.model clock.new) (D.model draws.new)) }
 {
-    match reader.next_request(line, store) {
+    match reader.next_request(service.settings.largest_body, line, store) {
         Ok(Got::Request(message)) => answer(
             alloc,
             store,

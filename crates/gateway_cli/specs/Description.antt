@@ -2,7 +2,7 @@
 use Rattle.std.specs.Prelude.{ℕ, true, List, Some, codes}
 use Rattle.clap.specs.Walk.{Rule}
 use Rattle.clap.specs.Simple.{App, Shape, new_app, new_rule, on_top, with_rule, with_subcommand}
-use Rattle.clap.specs.declared.builder.action.ArgAction.TheVariants.{Set}
+use Rattle.clap.specs.declared.builder.action.ArgAction.TheVariants.{Set, SetTrue}
 
 -- the option `--region R`
 abbrev pub region_rule : Rule
@@ -16,9 +16,21 @@ key_rule = record (new_rule (codes "key")) { long = Some (codes "key"); action =
 abbrev pub least_part_rule : Rule
 least_part_rule = record (new_rule (codes "least-part")) { long = Some (codes "least-part"); action = Some Set }
 
--- a command of that name that serves, with a region and a least part
+-- the option `--largest-body N`
+abbrev pub largest_body_rule : Rule
+largest_body_rule = record (new_rule (codes "largest-body")) { long = Some (codes "largest-body"); action = Some Set }
+
+-- the flag `--extended`
+abbrev pub extended_rule : Rule
+extended_rule = record (new_rule (codes "extended")) { long = Some (codes "extended"); action = Some SetTrue }
+
+-- a command of that name with a region and a least part
+abbrev pub parted_app : List ℕ → App
+parted_app name = with_rule (with_rule (new_app name) region_rule) least_part_rule
+
+-- one that serves, with these, a largest body, and the flag
 abbrev pub serving_app : List ℕ → App
-serving_app name = with_rule (with_rule (new_app name) region_rule) least_part_rule
+serving_app name = with_rule (with_rule (parted_app name) largest_body_rule) extended_rule
 
 -- `session`, with these
 abbrev pub session_app : App

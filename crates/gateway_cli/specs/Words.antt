@@ -1,5 +1,5 @@
 -- What the words that follow the program's name ask for (this profile).
-use Rattle.std.specs.Prelude.{◌≡◌, ◌≢◌, ◌<◌, ◌≤◌, ℕ, Bool, true, ◌&&◌, ◌||◌, ◌==◌, nat_le, if◌then◌else◌, List, length, map, codes, bytes_eq, Option, Some, None}
+use Rattle.std.specs.Prelude.{◌≡◌, ◌≢◌, ◌<◌, ◌≤◌, ℕ, Bool, true, false, ◌&&◌, ◌||◌, ◌==◌, nat_le, if◌then◌else◌, List, length, map, codes, bytes_eq, Option, Some, None}
 use Rattle.std.specs.Prelude.{option_and_then, option_map, unwrap_or, Result, Ok, Err, String, string_bytes}
 use Rattle.std.specs.List.{list_all}
 use Rattle.std.specs.Str.Parse.{digits_value}
@@ -56,6 +56,16 @@ abbrev pub least_part_option : Option (List ℕ) → Option ℕ
 least_part_option None = Some 5242880
 least_part_option (Some text) = number_in 1 16777216 text
 
+-- the largest body that is given, or the usual one, which is 16 MiB; none where what is given isn't 1 to 1073741824
+abbrev pub largest_body_option : Option (List ℕ) → Option ℕ
+largest_body_option None = Some 16777216
+largest_body_option (Some text) = number_in 1 1073741824 text
+
+-- whether a flag is given: `clap` tells `true` of it then, and else `false`
+abbrev pub is_flag_given : Option (List ℕ) → Bool
+is_flag_given None = false
+is_flag_given (Some text) = bytes_eq text (codes "true")
+
 -- the number of seconds that is given, a second to a week; none where none is, or what is given isn't such a number
 abbrev pub span_of : Option (List ℕ) → Option ℕ
 span_of None = None
@@ -71,14 +81,19 @@ moment_of (Some text) = number_in 0 253402300799 text
 abbrev pub region_option : Option (List ℕ) → List ℕ
 region_option given = unwrap_or given (codes "us-east-1")
 
--- `session`, with the region and the least part that are given
-abbrev pub session_command_by_options : Option (List ℕ) → Option (List ℕ) → Option Command
-session_command_by_options given least = if is_region (region_option given) then option_map (Session (region_option given)) (least_part_option least) else None
+-- `session`, with the region, the least part and the largest body that are given, and the flag
+abbrev pub session_command_by_options : Option (List ℕ) → Option (List ℕ) → Option (List ℕ) → Option (List ℕ) → Option Command
+session_command_by_options given least largest extended = if is_region (region_option given)
+    then option_and_then (λ part. option_map (λ body. Session (region_option given) part body (is_flag_given extended)) (largest_body_option largest))
+    (least_part_option least)
+    else None
 
--- `serve`, with the region, the number of connections and the least part that are given
-abbrev pub serve_command_by_options : Option (List ℕ) → Option (List ℕ) → Option (List ℕ) → Option Command
-serve_command_by_options given connections least = if is_region (region_option given)
-    then option_and_then (λ n. option_map (Serve (region_option given) n) (least_part_option least)) (count_of connections) else None
+-- `serve`, with these and the number of connections that is given
+abbrev pub serve_command_by_options : Option (List ℕ) → Option (List ℕ) → Option (List ℕ) → Option (List ℕ) → Option (List ℕ) → Option Command
+serve_command_by_options given connections least largest extended = if is_region (region_option given)
+    then option_and_then (λ n. option_and_then (λ part. option_map (λ body. Serve (region_option given) n part body (is_flag_given extended)) (largest_body_option largest))
+    (least_part_option least)) (count_of connections)
+    else None
 
 -- `sign`, with the key and the region that are given
 abbrev pub sign_command_by_options : Option (List ℕ) → Option (List ℕ) → Option Command
@@ -117,8 +132,11 @@ name_of text = if bytes_eq text (codes "session") then Some name.Session
 
 -- a command, with what `clap` found for it
 abbrev pub command_with : List Row → CommandName → Option Command
-command_with rows name.Session = session_command_by_options (first_of (codes "region") rows) (first_of (codes "least-part") rows)
-command_with rows name.Serve = serve_command_by_options (first_of (codes "region") rows) (first_of (codes "connections") rows) (first_of (codes "least-part") rows)
+command_with rows name.Session =
+    session_command_by_options (first_of (codes "region") rows) (first_of (codes "least-part") rows) (first_of (codes "largest-body") rows) (first_of (codes "extended") rows)
+command_with rows name.Serve =
+    serve_command_by_options (first_of (codes "region") rows) (first_of (codes "connections") rows) (first_of (codes "least-part") rows)
+    (first_of (codes "largest-body") rows) (first_of (codes "extended") rows)
 command_with rows name.Sign = sign_command_by_options (first_of (codes "key") rows) (first_of (codes "region") rows)
 command_with rows name.Presign = presign_command_by_options (first_of (codes "key") rows) (first_of (codes "region") rows) (first_of (codes "expires") rows)
 command_with rows name.Recover = Some Recover
@@ -147,8 +165,8 @@ ReadsWords meant (Err Memory) = Unit {0}
 -- what a command has that asks for it: to make a URL, a region of the form, and a second to a week; to sweep, a moment up to the end
 -- of the year 9999; to try, at most 100,000 requests
 abbrev pub IsProper : Command → Type 0
-IsProper (Session region least) = Unit {0}
-IsProper (Serve region connections least) = Unit {0}
+IsProper (Session region least largest extended) = Unit {0}
+IsProper (Serve region connections least largest extended) = Unit {0}
 IsProper (Sign key region) = Unit {0}
 IsProper (Presign key region expires) = (is_region region ≡ true) × (1 ≤ expires) × (expires ≤ 604800)
 IsProper Recover = Unit {0}

@@ -4,7 +4,8 @@ use gate_base::{Bytes, Copying, Memory};
 use std::alloc::AllocError;
 
 /// What the words ask for. `Session`: to serve the connections of the line as this region, where each part of a completed
-/// upload but the last has at least so many bytes. `Serve`: the same, but at most so many connections. `Sign`: to sign a
+/// upload but the last has at least so many bytes, a body has at most so many, and requests may ask for more than the strict
+/// profile has where it is `extended`. `Serve`: the same, but at most so many connections. `Sign`: to sign a
 /// request with the key of this id, for this region. `Presign`: to make a URL of it that holds for so many seconds.
 /// `Recover`: to settle the store. `Sweep`: to remove what is left over on it, and to forget the completions from before a moment.
 /// `Check`: to count what stands on it. `Trial`: to answer so many requests that this number determines.
@@ -13,11 +14,15 @@ pub enum Command {
     Session {
         region: Bytes,
         least_part: u64,
+        largest_body: u64,
+        extended: bool,
     },
     Serve {
         region: Bytes,
         connections: u64,
         least_part: u64,
+        largest_body: u64,
+        extended: bool,
     },
     Sign {
         key: Bytes,
@@ -42,18 +47,29 @@ pub enum Command {
 impl Copying for Command {
     fn copy(&self) -> Result<Command, Memory> {
         match self {
-            Command::Session { region, least_part } => Ok(Command::Session {
+            Command::Session {
+                region,
+                least_part,
+                largest_body,
+                extended,
+            } => Ok(Command::Session {
                 region: region.copy()?,
                 least_part: *least_part,
+                largest_body: *largest_body,
+                extended: *extended,
             }),
             Command::Serve {
                 region,
                 connections,
                 least_part,
+                largest_body,
+                extended,
             } => Ok(Command::Serve {
                 region: region.copy()?,
                 connections: *connections,
                 least_part: *least_part,
+                largest_body: *largest_body,
+                extended: *extended,
             }),
             Command::Sign { key, region } => Ok(Command::Sign {
                 key: key.copy()?,

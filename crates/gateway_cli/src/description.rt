@@ -1,7 +1,7 @@
 ghost use Rattle.std.specs.Prelude.{◌≡◌, false, IfOk};
 ghost use Rattle.clap.specs.Words.{app_of, with_subcommand};
 ghost use Rattle.clap.specs.declared.builder.command.Command.TheViews.{out-Command as fields_of};
-ghost use Rattle.gateway_cli.specs.Description.{check_app, gate_app, presign_app, recover_app, sweep_app, serve_app, serving_app, session_app, sign_app, signer_app, trial_app};
+ghost use Rattle.gateway_cli.specs.Description.{check_app, gate_app, parted_app, presign_app, recover_app, sweep_app, serve_app, serving_app, session_app, sign_app, signer_app, trial_app};
 
 use clap::{Arg, ArgAction, Command};
 use std::alloc::{AllocError, Global};
@@ -98,6 +98,21 @@ fn with_trial_description<'a>(alloc: Global, gate: Command<'a>) -> Result<Comman
 /// A command of that name that serves, with the options of what its service is set to.
 fn serving_description<'a>(alloc: Global, name: &'a str) -> Result<Command<'a>, AllocError>
     ensures app { IfOk result (λ command. app_of command ≡ serving_app name.now) }
+    ensures local { IfOk result (λ command. (fields_of command).has_globals ≡ false) }
+{
+    let parted = parted_description(alloc, name)?;
+    let largest_body = Arg::new(alloc, "largest-body")
+        .long("largest-body")
+        .action(ArgAction::Set);
+    let extended = Arg::new(alloc, "extended")
+        .long("extended")
+        .action(ArgAction::SetTrue);
+    parted.arg(largest_body)?.arg(extended)
+}
+
+/// One of that name with a region and a least part alone.
+fn parted_description<'a>(alloc: Global, name: &'a str) -> Result<Command<'a>, AllocError>
+    ensures app { IfOk result (λ command. app_of command ≡ parted_app name.now) }
     ensures local { IfOk result (λ command. (fields_of command).has_globals ≡ false) }
 {
     let region = Arg::new(alloc, "region")

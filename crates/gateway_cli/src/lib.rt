@@ -7,4 +7,4 @@ mod read;
 mod text;
 
 pub use command::{Command, WordsFault};
-pub use read::read_words;
+pub use read::{USUAL_LARGEST_BODY, read_words};

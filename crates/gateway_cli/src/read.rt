@@ -1,7 +1,7 @@
 ghost use Rattle.gate_base.specs.Told.{moment_limit};
 ghost use Rattle.std.specs.Prelude.{◌≡◌, ◌<◌, IfOk, IfSome, map, option_and_then, option_map, string_bytes, ◌≤◌};
 ghost use Rattle.clap.specs.Words.{found_of, kind_of, rows_of, subcommand_rows_of};
-ghost use Rattle.gateway_cli.specs.Words.{FaultOf, IsProper, Parses, ReadsWords, command_in, command_of, command_with, count_of, least_part_option, name_of, presign_command_by_options, region_option, serve_command_by_options, moment_of, session_command_by_options, sign_command_by_options, span_of, sweep_command_by_options, trial_command_by_options, trial_number_of};
+ghost use Rattle.gateway_cli.specs.Words.{FaultOf, IsProper, Parses, ReadsWords, command_in, command_of, command_with, count_of, is_flag_given, largest_body_option, least_part_option, name_of, presign_command_by_options, region_option, serve_command_by_options, moment_of, session_command_by_options, sign_command_by_options, span_of, sweep_command_by_options, trial_command_by_options, trial_number_of};
 
 use crate::description::gate;
 use crate::text::{is_key_option, is_region, number_in};
@@ -23,8 +23,14 @@ const MOST_CONNECTIONS: u64 = 1_000_000_000;
 /// The least size in bytes of a part that isn't the last, where the words give none: S3's 5 MiB.
 const USUAL_LEAST_PART: u64 = 5_242_880;
 
-/// The greatest least size of a part that may be asked for: the most bytes that a part may have.
+/// The greatest least size of a part that may be asked for: the most bytes that a part may have where no larger body is asked for.
 const MOST_LEAST_PART: u64 = 16_777_216;
+
+/// The most bytes of a body, where the words don't say: 16 MiB.
+pub const USUAL_LARGEST_BODY: u64 = 16_777_216;
+
+/// The most bytes of a body that may be asked for: 1 GiB.
+const MOST_LARGEST_BODY: u64 = 1_073_741_824;
 
 /// The most seconds that a URL may hold for: a week.
 const LONGEST_SPAN: u64 = 604_800;
@@ -49,8 +55,8 @@ enum CommandName {
 
 /// The command that the words name. The words are those behind the program's name. They are refused where `clap`
 /// refuses them or answers with a help text, where a region isn't 1 to 32 bytes of `a-z 0-9 -`, where a number of
-/// connections isn't 1 to 1000000000 in at most 20 digits, where a least part isn't 1 to 16777216 or a number of seconds
-/// 1 to 604800 in as many, where a moment isn't 0 to 253402300799 in as many, where the id of a key isn't 1 to 128 letters and digits, and
+/// connections isn't 1 to 1000000000 in at most 20 digits, where a least part isn't 1 to 16777216, a largest body 1 to 1073741824
+/// or a number of seconds 1 to 604800 in as many, where a moment isn't 0 to 253402300799 in as many, where the id of a key isn't 1 to 128 letters and digits, and
 /// where a number of a trial isn't 0 to 18446744073709551615, or a number of its requests 0 to 100000, in as many digits.
 pub fn read_words(alloc: Global, words: &[String]) -> Result<Command, WordsFault>
     ensures reads { ReadsWords (command_of words.now) result }
@@ -129,14 +135,20 @@ fn command_with(alloc: Global, name: CommandName, found: &ArgMatches) -> Result<
     ensures proper { IfOk result IsProper }
 {
     match name {
-        CommandName::Session => {
-            session_command_by_options(alloc, found.get_str("region"), found.get_str("least-part"))
-        }
+        CommandName::Session => session_command_by_options(
+            alloc,
+            found.get_str("region"),
+            found.get_str("least-part"),
+            found.get_str("largest-body"),
+            found.get_str("extended"),
+        ),
         CommandName::Serve => serve_command_by_options(
             alloc,
             found.get_str("region"),
             found.get_str("connections"),
             found.get_str("least-part"),
+            found.get_str("largest-body"),
+            found.get_str("extended"),
         ),
         CommandName::Sign => sign_command_by_options(
             alloc,
@@ -162,9 +174,13 @@ fn session_command_by_options(
     alloc: Global,
     region: Option<&str>,
     least_part: Option<&str>,
+    largest_body: Option<&str>,
+    extended: Option<&str>,
 ) -> Result<Command, WordsFault>
     ensures reads { ReadsWords (session_command_by_options (option_map (λ text. text.now) region.entry)
-        (option_map (λ text. text.now) least_part.entry)) result }
+        (option_map (λ text. text.now) least_part.entry)
+        (option_map (λ text. text.now) largest_body.entry)
+        (option_map (λ text. text.now) extended.entry)) result }
     ensures proper { IfOk result IsProper }
 {
     let region = region_option(region);
@@ -174,9 +190,14 @@ fn session_command_by_options(
     let Some(least_part) = least_part_option(least_part) else {
         return Err(WordsFault::Refused);
     };
+    let Some(largest_body) = largest_body_option(largest_body) else {
+        return Err(WordsFault::Refused);
+    };
     Ok(Command::Session {
         region: Bytes::from_slice(alloc, region)?,
         least_part,
+        largest_body,
+        extended: is_flag_given(extended),
     })
 }
 
@@ -185,10 +206,14 @@ fn serve_command_by_options(
     region: Option<&str>,
     connections: Option<&str>,
     least_part: Option<&str>,
+    largest_body: Option<&str>,
+    extended: Option<&str>,
 ) -> Result<Command, WordsFault>
     ensures reads { ReadsWords (serve_command_by_options (option_map (λ text. text.now) region.entry)
         (option_map (λ text. text.now) connections.entry)
-        (option_map (λ text. text.now) least_part.entry)) result }
+        (option_map (λ text. text.now) least_part.entry)
+        (option_map (λ text. text.now) largest_body.entry)
+        (option_map (λ text. text.now) extended.entry)) result }
     ensures proper { IfOk result IsProper }
 {
     let region = region_option(region);
@@ -201,10 +226,15 @@ fn serve_command_by_options(
     let Some(least_part) = least_part_option(least_part) else {
         return Err(WordsFault::Refused);
     };
+    let Some(largest_body) = largest_body_option(largest_body) else {
+        return Err(WordsFault::Refused);
+    };
     Ok(Command::Serve {
         region: Bytes::from_slice(alloc, region)?,
         connections,
         least_part,
+        largest_body,
+        extended: is_flag_given(extended),
     })
 }
 
@@ -332,6 +362,25 @@ fn least_part_option(given: Option<&str>) -> Option<u64>
     match given {
         Some(text) => number_in(text, 1, MOST_LEAST_PART),
         None => Some(USUAL_LEAST_PART),
+    }
+}
+
+fn largest_body_option(given: Option<&str>) -> Option<u64>
+    ensures { result ≡ largest_body_option (option_map (λ text. text.now) given.entry) }
+{
+    match given {
+        Some(text) => number_in(text, 1, MOST_LARGEST_BODY),
+        None => Some(USUAL_LARGEST_BODY),
+    }
+}
+
+/// Whether a flag is given, by what `clap` tells of it.
+fn is_flag_given(told: Option<&str>) -> bool
+    ensures { result ≡ is_flag_given (option_map (λ text. text.now) told.entry) }
+{
+    match told {
+        Some(text) => text == "true",
+        None => false,
     }
 }
 

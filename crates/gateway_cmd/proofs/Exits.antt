@@ -1,13 +1,14 @@
 -- How a run ended, by its exit status, and by what was asked for.
 use Rattle.std.proofs.Common.{◌≡◌, ◌≢◌, ◌⊎◌, ◌==◌, ◌≤◌, ◌||◌, if◌then◌else◌, ℕ, Bool, true, false, List, None, Some, is_some, ◌∙◌, refl, sym, ap, subst, inl, inr, arith}
 use Rattle.gate_base.specs.Line.{LineModel}
+use Rattle.gateway_cmd.specs.Facts.{Finish, unfinished, served_out, telling, facts_of, told_by, is_served_out, Fits, ends_by_store, is_serving, is_signing, tells, uses_line}
 use Rattle.gateway_cmd.specs.declared.status.RunOutcome.{RunOutcome}
 use Rattle.gateway_cmd.specs.declared.status.RunOutcome.TheVariants.{Told, Inconsistent, Plain}
 use Rattle.gateway_cmd.specs.declared.status.Status.{Status}
 use Rattle.gateway_cmd.specs.declared.status.Status.TheVariants.{Done, Usage, Line, Store, Request, Memory}
-use Rattle.gateway_cmd.specs.Report.{IsStatus, Says, Fits, Admits, kind_of, code_of, is_plain, is_failed_run, is_done, is_done_status}
+use Rattle.gateway_cmd.specs.Report.{IsStatus, Says, Admits, kind_of, code_of, is_plain, is_failed_run, is_done, is_done_status}
 use Rattle.gateway_cmd.specs.Session.{LineServed}
-use Rattle.gateway_cmd.specs.Tasks.{Task, nothing, to_serve, to_sign, to_presign, to_recover, to_sweep, to_check, Serving, is_serving, is_signing, uses_line, tells, to_try, ends_by_store}
+use Rattle.gateway_cmd.specs.Tasks.{Task, Serving}
 
 -- the exit status of a run that ended so; 6 is that of one whose report failed
 abbrev pub Exits : RunOutcome → ℕ → Type 0
@@ -83,18 +84,13 @@ done_plain Memory n x e = absurd (omega arith)
 done_plain Request n x e = absurd (omega arith)
 
 -- where connections are served there is nothing to tell
-serving_tells : (task : Task) → is_serving task ≡ true → tells task ≡ None
-serving_tells nothing is = refl
-serving_tells (to_serve serving) is = refl
-serving_tells (to_sign id region) is = absurd (let no : false ≡ true = is in cc)
-serving_tells (to_presign id region expires) is = absurd (let no : false ≡ true = is in cc)
-serving_tells to_recover is = absurd (let no : false ≡ true = is in cc)
-serving_tells (to_sweep before) is = absurd (let no : false ≡ true = is in cc)
-serving_tells to_check is = absurd (let no : false ≡ true = is in cc)
-serving_tells (to_try number requests) is = absurd (let no : false ≡ true = is in cc)
+serving_tells : (finish : Finish) → is_served_out finish ≡ true → told_by finish ≡ None
+serving_tells unfinished is = refl
+serving_tells served_out is = refl
+serving_tells (telling kind) is = absurd (let no : false ≡ true = is in cc)
 
 pub serving_plain : (task : Task) (ended : RunOutcome) → is_serving task ≡ true → Fits task ended → is_plain ended ≡ true
-serving_plain task (Told told) serving fits = absurd (let no : None ≡ Some (kind_of told) = sym (serving_tells task serving) ∙ fits in cc)
+serving_plain task (Told told) serving fits = absurd (let no : None ≡ Some (kind_of told) = sym (serving_tells (facts_of task).finish serving) ∙ fits in cc)
 serving_plain task (Inconsistent container name) serving fits = refl
 serving_plain task (Plain status) serving fits = refl
 
@@ -110,7 +106,7 @@ exits_told_of task (Inconsistent container name) n x e some fits = absurd (exits
 exits_told_of task (Plain status) n x e some fits =
     let done : status ≡ Done = done_plain status n x e in
     let serving : is_serving task ≡ true = subst (λ s. Fits task (Plain s)) done fits in
-    absurd (let no : true ≡ false = sym some ∙ ap is_some (serving_tells task serving) in cc)
+    absurd (let no : true ≡ false = sym some ∙ ap is_some (serving_tells (facts_of task).finish serving) in cc)
 
 pub told_of : (task : Task) (ended : RunOutcome) → is_plain ended ≡ false → Fits task ended → is_some (tells task) ≡ true
 told_of task (Told told) plain fits = ap is_some fits

@@ -14,5 +14,5 @@ pub mod SweepRuns
 pub mod SweptBy
 pub mod Unforgotten
 pub mod Unswept
+pub mod TaskLaws
 pub mod Trials
-pub mod Works

@@ -1,6 +1,5 @@
 -- A session, connection by connection, over a history that grows, and the run that it is.
-use Rattle.std.specs.Prelude.{◌&&◌}
-use Rattle.std.proofs.Common.{◌≡◌, ◌≢◌, ◌++◌, ◌∷◌, ℕ, Bool, true, false, List, [], Option, None, Some, if◌then◌else◌, slice_set, ◌-◌, is_some, refl, sym, ap, subst, inl, ◌∙◌, arith}
+use Rattle.std.proofs.Common.{◌≡◌, ◌≢◌, ◌++◌, ◌∷◌, ℕ, Bool, true, false, List, [], Option, None, Some, if◌then◌else◌, slice_set, ◌-◌, refl, sym, ap, subst, inl, ◌∙◌, arith}
 use Rattle.gate_base.specs.Line.{LineModel, TranscriptServes}
 use Rattle.gate_base.specs.Told.{SourceModel}
 use Rattle.gate_base.specs.Transcript.{Begins}
@@ -8,7 +7,7 @@ use Rattle.gate_base.specs.declared.outside.Piece.{Piece}
 use Rattle.s3_machine.specs.declared.operation.Settings.{Settings}
 use Rattle.swift_calls.specs.History.{History, Extends}
 use Rattle.upload_records.specs.Consistent.{IsConsistent}
-use Rattle.sigv4.specs.Keys.{keys_of, are_keys, secret_of}
+use Rattle.sigv4.specs.Keys.{keys_of, are_keys}
 use Rattle.sigv4.specs.declared.keys.AccessKey.{AccessKey}
 use Rattle.sign_cmd.specs.Signing.{SignsOn}
 use Rattle.account_calls.specs.declared.state.Known.{Known}
@@ -23,14 +22,15 @@ use Rattle.gateway.specs.Stands.{Stands}
 use Rattle.gateway.specs.World.{World, world, progress_of, start_of, IsObservable, ServesOver}
 use Rattle.gateway.proofs.lemmas.Standing.{stands_throughout}
 use Rattle.gateway.proofs.lemmas.Worlds.{serves_none}
+use Rattle.gateway_cmd.specs.Facts.{Fits}
 use Rattle.gateway_cmd.specs.declared.status.RunOutcome.{RunOutcome}
 use Rattle.gateway_cmd.specs.declared.status.RunOutcome.TheVariants.{Plain}
 use Rattle.gateway_cmd.specs.declared.status.Status.{Status}
 use Rattle.gateway_cmd.specs.declared.status.Status.TheVariants.{Done, Usage, Line, Store, Request, Memory}
-use Rattle.gateway_cmd.specs.Report.{is_failed_run, is_done, Admits, Fits}
-use Rattle.gateway_cmd.specs.Tasks.{Apart, settings_of, is_possible, Serving, service_of, Task, nothing, to_serve, to_sign, to_presign, to_recover, to_sweep, to_check, to_try}
+use Rattle.gateway_cmd.specs.Report.{is_failed_run, is_done}
+use Rattle.gateway_cmd.specs.Tasks.{settings_of, Serving, service_of, Task, to_serve}
 use Rattle.gateway_cmd.specs.Run.{run_cursor_of, RunTrace, none, more, RunTraces, RunTraced, RunStands, RunRefines}
-use Rattle.gateway_cmd.specs.Session.{is_end, NextCursor, LineServed, LineServesAll, RunServes, RunSigns, RunPresigns, IsIdle, out_of_memory, keys_refused, nothing_done, none_swept, none_surveyed, Does, nothing_tried}
+use Rattle.gateway_cmd.specs.Session.{is_end, NextCursor, LineServed, LineServesAll, RunServes, RunSigns, RunPresigns, IsIdle, out_of_memory, keys_refused}
 use Rattle.gateway_cmd.proofs.Faulty.{none_faulty_of_none}
 use Rattle.gateway_cmd.proofs.RunTraces.{run_trace_agree, run_trace_follow, run_trace_pass, run_trace_stands}
 
@@ -112,13 +112,13 @@ signs_on_none : (failed : Bool) (at : ℕ) (line : LineModel) → failed ≡ fal
 signs_on_none true at line fails = cc
 signs_on_none false at line fails = record { faults = refl; next_faults = λ same. refl; observable = λ t. t; begun = λ t. omega arith; sent = λ t. inl refl }
 
-run_signs_none : (id region keys : List ℕ) (at : ℕ) (ended : RunOutcome) (line : LineModel) → is_failed_run ended ≡ false → (are_keys (keys_of keys) ≡ true → ended ≢ Plain Memory → ⊥) → RunSigns id region keys at ended line line
+pub run_signs_none : (id region keys : List ℕ) (at : ℕ) (ended : RunOutcome) (line : LineModel) → is_failed_run ended ≡ false → (are_keys (keys_of keys) ≡ true → ended ≢ Plain Memory → ⊥) → RunSigns id region keys at ended line line
 run_signs_none id region keys at ended line fails never = record {
   line = signs_on_none (is_failed_run ended) at line fails;
   effect = λ secret good has observable memory. absurd (never good memory);
 }
 
-run_presigns_none : (id region : List ℕ) (expires : ℕ) (keys : List ℕ) (at : ℕ) (ended : RunOutcome) (line : LineModel) (clock : SourceModel) → is_failed_run ended ≡ false → (are_keys (keys_of keys) ≡ true → ended ≢ Plain Memory → ⊥)
+pub run_presigns_none : (id region : List ℕ) (expires : ℕ) (keys : List ℕ) (at : ℕ) (ended : RunOutcome) (line : LineModel) (clock : SourceModel) → is_failed_run ended ≡ false → (are_keys (keys_of keys) ≡ true → ended ≢ Plain Memory → ⊥)
     → RunPresigns id region expires keys at ended line line clock clock
 run_presigns_none id region expires keys at ended line clock fails never = record {
   line = signs_on_none (is_failed_run ended) at line fails;
@@ -126,70 +126,29 @@ run_presigns_none id region expires keys at ended line clock fails never = recor
 }
 
 -- a run that did nothing: the line didn't fail, not all was done, and where the keys are taken memory ran out
-idle_fails : {keys : List ℕ} {ended : RunOutcome} → IsIdle keys ended → is_failed_run ended ≡ false
+pub idle_fails : {keys : List ℕ} {ended : RunOutcome} → IsIdle keys ended → is_failed_run ended ≡ false
 idle_fails (out_of_memory memory) = ap is_failed_run memory
 idle_fails (keys_refused usage bad) = ap is_failed_run usage
 
-idle_ends : {keys : List ℕ} {ended : RunOutcome} → IsIdle keys ended → is_done ended ≡ false
+pub idle_ends : {keys : List ℕ} {ended : RunOutcome} → IsIdle keys ended → is_done ended ≡ false
 idle_ends (out_of_memory memory) = ap is_done memory
 idle_ends (keys_refused usage bad) = ap is_done usage
 
-idle_never : {keys : List ℕ} {ended : RunOutcome} → IsIdle keys ended → are_keys (keys_of keys) ≡ true → ended ≢ Plain Memory → ⊥
+pub idle_never : {keys : List ℕ} {ended : RunOutcome} → IsIdle keys ended → are_keys (keys_of keys) ≡ true → ended ≢ Plain Memory → ⊥
 idle_never (out_of_memory memory) good other = other memory
 idle_never (keys_refused usage bad) good other = absurd (let no : true ≡ false = sym good ∙ bad in cc)
 
-pub does_none : (task : Task) (keys : List ℕ) (ended : RunOutcome) (line : LineModel) (store : History) (clock draws : SourceModel) → IsIdle keys ended
-    → Does task keys ended (world line store Unsure clock draws) (λ known. world line store known clock draws)
-does_none nothing keys ended line store clock draws idle = tt
-does_none (to_serve serving) keys ended line store clock draws idle = run_serves_none serving keys ended line store clock draws (idle_fails idle) (idle_ends idle)
-does_none (to_sign id region) keys ended line store clock draws idle = run_signs_none id region keys store.called ended line (idle_fails idle) (idle_never idle)
-does_none (to_presign id region expires) keys ended line store clock draws idle =
-    run_presigns_none id region expires keys store.called ended line clock (idle_fails idle) (idle_never idle)
-does_none to_recover keys ended line store clock draws idle = nothing_done refl idle
-does_none (to_sweep before) keys ended line store clock draws idle = none_swept refl idle
-does_none to_check keys ended line store clock draws idle = none_surveyed refl idle
-does_none (to_try number requests) keys ended line store clock draws idle = nothing_tried refl idle
-
--- by keys that are refused nothing can be done
-impossible_by : (task : Task) (keys : List ℕ) → are_keys (keys_of keys) ≡ false → is_possible task keys ≡ false
-impossible_by nothing keys bad = refl
-impossible_by (to_serve serving) keys bad = bad
-impossible_by (to_sign id region) keys bad = ap (λ b. b && is_some (secret_of id (keys_of keys))) bad
-impossible_by (to_presign id region expires) keys bad = ap (λ b. b && is_some (secret_of id (keys_of keys))) bad
-impossible_by to_recover keys bad = bad
-impossible_by (to_sweep before) keys bad = bad
-impossible_by to_check keys bad = bad
-impossible_by (to_try number requests) keys bad = bad
-
-idle_usage : (task : Task) (keys : List ℕ) (ended : RunOutcome) → IsIdle keys ended → ended ≡ Plain Usage → is_possible task keys ≡ false
-idle_usage task keys ended (out_of_memory memory) usage = absurd (let clash : Plain Memory ≡ Plain Usage = sym memory ∙ usage in cc)
-idle_usage task keys ended (keys_refused usage bad) same = impossible_by task keys bad
-
-idle_refused : (keys : List ℕ) (ended : RunOutcome) → IsIdle keys ended → ended ≢ Plain Memory → ended ≡ Plain Usage
+pub idle_refused : (keys : List ℕ) (ended : RunOutcome) → IsIdle keys ended → ended ≢ Plain Memory → ended ≡ Plain Usage
 idle_refused keys ended (out_of_memory memory) other = absurd (other memory)
 idle_refused keys ended (keys_refused usage bad) other = usage
-
--- what is left alone, where the draws are too
-pub draws_apart : (L S C D : Type 0) (task : Task) → Apart task L S C (Unit {0}) → D → Apart task L S C D
-draws_apart L S C D nothing left draws = (left.0, left.1, left.2, draws)
-draws_apart L S C D (to_serve serving) left draws = tt
-draws_apart L S C D (to_sign id region) left draws = (left.0, left.1, draws)
-draws_apart L S C D (to_presign id region expires) left draws = (left.0, draws)
-draws_apart L S C D to_recover left draws = (left.0, left.1, draws)
-draws_apart L S C D (to_sweep before) left draws = (left.0, left.1, draws)
-draws_apart L S C D to_check left draws = (left.0, left.1, draws)
-draws_apart L S C D (to_try number requests) left draws = (left.0, left.1, draws)
-
-pub idle_admits : (task : Task) (keys : List ℕ) (ended : RunOutcome) → IsIdle keys ended → Admits (is_possible task keys) ended
-idle_admits task keys ended idle = record { usage = idle_usage task keys ended idle; refused = λ no other. idle_refused keys ended idle other }
 
 pub idle_fits : (task : Task) (keys : List ℕ) (ended : RunOutcome) → IsIdle keys ended → Fits task ended
 idle_fits task keys ended (out_of_memory memory) = subst (Fits task) (sym memory) tt
 idle_fits task keys ended (keys_refused usage bad) = subst (Fits task) (sym usage) tt
 
 -- what connections are served by as a region, with a least part, at most so many
-abbrev pub as_region : List ℕ → ℕ → Option ℕ → Serving
-as_region region least most = record { settings = settings_of region least; most = most }
+abbrev pub as_region : List ℕ → ℕ → ℕ → Bool → Option ℕ → Serving
+as_region region least largest extended most = record { settings = settings_of region least largest extended; most = most }
 
 -- how a session ended, as a run
 done_is : (status : Status) → is_done (Plain status) ≡ true → status ≡ Done

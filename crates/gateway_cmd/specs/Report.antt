@@ -1,5 +1,5 @@
 -- The statuses of the program `s3gate` and the lines that it reports. Source: this profile.
-use Rattle.std.specs.Prelude.{◌≡◌, ◌≢◌, ◌⊎◌, ℕ, Bool, true, false, List, [], ◌∷◌, ◌++◌, codes, decimal, IsTrue, Some, Result, Ok, Err}
+use Rattle.std.specs.Prelude.{◌≡◌, ◌≢◌, ◌⊎◌, ℕ, Bool, true, false, List, [], ◌∷◌, ◌++◌, codes, decimal, IsTrue, Result, Ok, Err}
 use Rattle.gate_base.specs.Causes.{Rose}
 use Rattle.gate_base.specs.Told.{SinkModel, PutsPrefix}
 use Rattle.hex.specs.Hex.{encode_lower}
@@ -24,7 +24,6 @@ use Rattle.gateway_cmd.specs.declared.status.RunOutcome.{RunOutcome}
 use Rattle.gateway_cmd.specs.declared.status.RunOutcome.TheVariants.{Told, Inconsistent, Plain}
 use Rattle.gateway_cmd.specs.declared.status.Told.{Told as Reported}
 use Rattle.gateway_cmd.specs.declared.status.Told.TheVariants.{Signature, Url, Settled, Sweep, Survey, Trial}
-use Rattle.gateway_cmd.specs.Tasks.{Task, Kind, a_signature, a_url, a_recovery, a_sweep, a_survey, tells, is_serving, is_signing, uses_line, a_trial, ends_by_store}
 
 -- the exit status
 abbrev pub code_of : Status → ℕ
@@ -160,6 +159,15 @@ is_plain (Told told) = false
 is_plain (Inconsistent container name) = true
 is_plain (Plain status) = true
 
+-- what a run may have to tell
+pub data Kind : Type 0 where
+  a_signature : Kind
+  a_url : Kind
+  a_recovery : Kind
+  a_sweep : Kind
+  a_survey : Kind
+  a_trial : Kind
+
 abbrev pub kind_of : Reported → Kind
 kind_of (Signature signed) = a_signature
 kind_of (Url url) = a_url
@@ -167,20 +175,6 @@ kind_of Settled = a_recovery
 kind_of (Sweep swept) = a_sweep
 kind_of (Survey surveyed) = a_survey
 kind_of (Trial requests size hash) = a_trial
-
--- how a run may end, by what is asked for: with what is to be told; done with nothing to tell, where connections are served; for
--- the line where it is used; for the store, or what it answered of an object, where that ends the run; without a request
--- where one is to be signed; and, whatever is asked for, with words or keys that are refused (`Admits` says when), or because
--- memory ran out
-abbrev pub Fits : Task → RunOutcome → Type 0
-Fits task (Told told) = tells task ≡ Some (kind_of told)
-Fits task (Inconsistent container name) = ends_by_store task ≡ true
-Fits task (Plain Done) = is_serving task ≡ true
-Fits task (Plain Usage) = Unit {0}
-Fits task (Plain Line) = uses_line task ≡ true
-Fits task (Plain Store) = ends_by_store task ≡ true
-Fits task (Plain Memory) = Unit {0}
-Fits task (Plain Request) = is_signing task ≡ true
 
 -- the exit status of a run that ended so, and what it reports: 6 where the report of what it has to tell failed; its lines may
 -- find no memory, and neither may the names of an object

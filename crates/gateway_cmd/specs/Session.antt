@@ -1,4 +1,4 @@
--- One step of a session: a connection that was served, or its end. Source: this profile.
+-- One step of a session: a connection that was served, or its end; and what a run of each command does. Source: this profile.
 use Rattle.std.specs.Prelude.{◌≡◌, ◌≢◌, ◌<◌, ◌≤◌, ◌⊎◌, ℕ, ◌+◌, ◌-◌, ◌^◌, ◌==◌, Bool, true, false, IsTrue, List, [], ◌++◌, replicate, Option, None, Some}
 use Rattle.std.specs.Prelude.{Result, Ok, Err}
 use Rattle.gate_base.specs.Causes.{Rose, RisesIf}
@@ -10,7 +10,6 @@ use Rattle.upload_records.specs.Native.{IsSettled}
 use Rattle.account_calls.specs.Answers.{most_settling}
 use Rattle.account_calls.specs.Calls.{Any, Grows, Met}
 use Rattle.account_calls.specs.declared.state.Known.{Known}
-use Rattle.account_calls.specs.declared.state.Known.TheVariants.{Unsure}
 use Rattle.account_calls.specs.Stutters.{Stutters}
 use Rattle.recovery.specs.declared.state.SettleFault.{SettleFault}
 use Rattle.recovery.specs.Settling.{Settles}
@@ -21,19 +20,17 @@ use Rattle.sign_cmd.specs.declared.first.Signing.{Signing}
 use Rattle.presign_cmd.specs.Presigning.{Presigns, AnswersFirst as UrlFirst, SendsFirst as UrlSends}
 use Rattle.presign_cmd.specs.declared.first.Presigning.{Presigning}
 use Rattle.trial_cmd.specs.declared.serve.Trial.{Trial}
-use Rattle.trial_cmd.specs.Served.{TrialDoes, trial_service}
+use Rattle.trial_cmd.specs.Served.{TrialDoes}
 use Rattle.gateway.specs.declared.service.Service.{Service}
 use Rattle.gateway.specs.Exchange.{ReplyRelation, Span}
-use Rattle.gateway.specs.Life.{upkeep, answering}
 use Rattle.gateway.specs.World.{World, ServesOver}
 use Rattle.gateway_cmd.specs.declared.status.Status.{Status}
 use Rattle.gateway_cmd.specs.declared.status.Status.TheVariants.{Done, Usage, Line, Store, Request as NoRequest, Memory}
 use Rattle.gateway_cmd.specs.declared.status.RunOutcome.{RunOutcome}
 use Rattle.gateway_cmd.specs.declared.status.RunOutcome.TheVariants.{Plain}
 use Rattle.gateway_cmd.specs.Report.{end_of, outcome_of_presigning, recovered, is_failed_run, is_done, outcome_of_trial}
-use Rattle.gateway_cmd.specs.Tasks.{Task, nothing, to_serve, to_sign, to_presign, to_recover, to_sweep, to_check, Serving, service_of, to_try}
+use Rattle.gateway_cmd.specs.Tasks.{Serving, service_of}
 use Rattle.gateway_cmd.specs.Run.{run_cursor_of, ServesNext, RunTraces}
-use Rattle.gateway_cmd.specs.Lives.{RunWork, usual, forgetting, RunPromises}
 use Rattle.gateway_cmd.specs.Sweeps.{Sweeps, Surveys}
 
 -- no connection is left, or as many as were asked for began
@@ -171,35 +168,3 @@ pub data RunSurveys (keys : List ℕ) (ended : RunOutcome) (old new : History) :
 pub record StoreTried (status : ℕ) (old new : History) : Type 0 where
   pub faults : status ≡ 4 → Rose old.faults new.faults
   pub consistent : Met Any old → status ≡ 7 → ⊥
-
--- what a run does by its task, whose words are taken; `new` is the world at its end, by what is known of the store then
-abbrev pub Does : Task → List ℕ → RunOutcome → World → (Known → World) → Type 0
-Does nothing keys ended old new = Unit {0}
-Does (to_serve serving) keys ended old new = RunServes serving keys ended old new
-Does (to_sign id region) keys ended old new = RunSigns id region keys old.store.called ended old.line (new Unsure).line
-Does (to_presign id region expires) keys ended old new =
-    RunPresigns id region expires keys old.store.called ended old.line (new Unsure).line old.clock (new Unsure).clock
-Does to_recover keys ended old new = RunRecovers keys ended old.store (new Unsure).store
-Does (to_sweep before) keys ended old new = RunSweeps before keys ended old.store (new Unsure).store
-Does to_check keys ended old new = RunSurveys keys ended old.store (new Unsure).store
-Does (to_try number requests) keys ended old new = RunTries number requests keys ended old.store (new Unsure).store
-
--- ---- what a run is among others, one after another
-
--- requests are answered where connections are served, or the store is tried; a sweep forgets the completions from before its moment;
--- and else the state stays
-abbrev pub IsWorkOf : Task → RunWork → Type 0
-IsWorkOf nothing work = work ≡ usual upkeep
-IsWorkOf (to_serve serving) work = (spans : List Span) × (work ≡ usual (answering serving.settings spans))
-IsWorkOf (to_sign id region) work = work ≡ usual upkeep
-IsWorkOf (to_presign id region expires) work = work ≡ usual upkeep
-IsWorkOf to_recover work = work ≡ usual upkeep
-IsWorkOf (to_sweep before) work = work ≡ forgetting before
-IsWorkOf to_check work = work ≡ usual upkeep
-IsWorkOf (to_try number requests) work = (spans : List Span) × (work ≡ usual (answering trial_service.settings spans))
-
--- the work of a task was done between two numbers of calls, where the account was consistent at the first
-pub record HasWorked (task : Task) (old new : History) : Type 0 where
-  pub work : RunWork
-  pub is : IsWorkOf task work
-  pub promises : RunPromises new old.called new.called work

@@ -10,12 +10,13 @@ ghost use Rattle.presign_cmd.specs.Presigning.{Presigns, AnswersFirst as UrlFirs
 ghost use Rattle.presign_cmd.specs.declared.first.Presigning.{Presigning};
 ghost use Rattle.gateway_cli.specs.Words.{IsProper, is_region};
 ghost use Rattle.gateway.specs.World.{world, Continues, ServesOver};
-ghost use Rattle.gateway_cmd.specs.Report.{Admits, Fits, is_failed_run, end_of, outcome_of_presigning};
-ghost use Rattle.gateway_cmd.specs.Tasks.{Apart, asked_for, is_possible, settings_of, task_of, to_sign, to_presign};
+ghost use Rattle.gateway_cmd.specs.Facts.{Apart, Does, Fits, is_possible};
+ghost use Rattle.gateway_cmd.specs.Report.{Admits, is_failed_run, end_of, outcome_of_presigning};
+ghost use Rattle.gateway_cmd.specs.Tasks.{asked_for, settings_of, task_of, to_sign, to_presign};
 ghost use Rattle.gateway_cmd.specs.declared.status.RunOutcome.TheVariants as ended;
 ghost use Rattle.gateway_cmd.specs.declared.status.Status.TheVariants as status;
 ghost use Rattle.gateway_cmd.specs.Run.{RunTraces};
-ghost use Rattle.gateway_cmd.specs.Session.{Does, LineServesAll};
+ghost use Rattle.gateway_cmd.specs.Session.{LineServesAll};
 
 use crate::keys::read_keys;
 use crate::recover::recover;
@@ -131,8 +132,13 @@ fn perform_by_keys<N: Line<W>, W: Swift, C: Clock, D: Draws>(
         (λ known. world (N.model line.new) (W.history store.new) known (C.model clock.new) (D.model draws.new)) }
 {
     match command {
-        Command::Session { region, least_part } => {
-            let settings = settings_of(alloc, region, *least_part);
+        Command::Session {
+            region,
+            least_part,
+            largest_body,
+            extended,
+        } => {
+            let settings = settings_of(alloc, region, *least_part, *largest_body, *extended);
             let most = None;
             RunOutcome::Plain(serve(alloc, settings, keys, most, line, store, clock, draws))
         }
@@ -140,8 +146,10 @@ fn perform_by_keys<N: Line<W>, W: Swift, C: Clock, D: Draws>(
             region,
             connections,
             least_part,
+            largest_body,
+            extended,
         } => {
-            let settings = settings_of(alloc, region, *least_part);
+            let settings = settings_of(alloc, region, *least_part, *largest_body, *extended);
             let most = Some(*connections);
             RunOutcome::Plain(serve(alloc, settings, keys, most, line, store, clock, draws))
         }
@@ -192,13 +200,21 @@ fn perform_lent<N: Line<W>, W: Swift, C: Clock>(
     }
 }
 
-/// The settings of a service of that region, which is taken, with that least part.
-fn settings_of(alloc: Global, region: &mut Bytes, least_part: u64) -> Settings
-    ensures { result ≡ settings_of region.old least_part }
+/// The settings of a service of that region, which is taken, with that least part, that largest body, and whether it is extended.
+fn settings_of(
+    alloc: Global,
+    region: &mut Bytes,
+    least_part: u64,
+    largest_body: u64,
+    extended: bool,
+) -> Settings
+    ensures { result ≡ settings_of region.old least_part largest_body extended }
 {
     Settings {
         region: taken_text(alloc, region),
         least_part,
+        largest_body,
+        extended,
     }
 }
 

@@ -1,4 +1,5 @@
-ghost use Rattle.std.specs.Prelude.{◌≡◌, ◌⊎◌, ◌==◌, ◌<◌, ℕ, true, false, IsTrue, List, is_some, Ok, Result as result_of};
+ghost use Rattle.std.specs.Prelude.{◌≡◌, ◌⊎◌, ◌==◌, ◌<◌, ◌-◌, ◌^◌, ℕ, Bool, true, false, IsTrue, List, is_some, length, min, Ok, Result as result_of};
+ghost use Rattle.sha2.specs.Sha256.{sha256};
 ghost use Rattle.gate_base.specs.Causes.{Rose};
 ghost use Rattle.gate_base.specs.Told.{ClockNow};
 ghost use Rattle.swift_calls.specs.History.{budget, present, FaultFree};
@@ -12,16 +13,18 @@ ghost use Rattle.sign_cmd.specs.Signing.{AnswersFirst, SendsFirst, SignsOn};
 ghost use Rattle.sign_cmd.specs.declared.first.Signing.{Signing};
 ghost use Rattle.presign_cmd.specs.Presigning.{Presigns, AnswersFirst as UrlFirst, SendsFirst as UrlSends};
 ghost use Rattle.presign_cmd.specs.declared.first.Presigning.{Presigning};
-ghost use Rattle.trial_cmd.specs.Served.{TrialDoes};
+ghost use Rattle.trial_cmd.specs.Served.{TrialDoes, TrialReplied};
 ghost use Rattle.trial_cmd.specs.declared.serve.Trial.{Trial as trial_end};
+ghost use Rattle.gateway.specs.Exchange.{Where};
 ghost use Rattle.gateway.specs.World.{world, IsObservable, Continues};
-ghost use Rattle.gateway_cmd.specs.Report.{is_plain, IsStatus, Fits, Says, Reports, end_of, outcome_of_presigning, recovered, surveyed_line, swept_line, code_of, line_of, outcome_of_trial};
-ghost use Rattle.gateway_cmd.specs.Tasks.{Apart, asked_for, is_possible, is_serving, is_signing, uses_line, tells, to_serve, to_sign, to_presign, to_recover, to_sweep, to_check, Serving, service_of, ends_by_store, to_try};
+ghost use Rattle.gateway_cmd.specs.Facts.{Apart, Does, Fits, HasWorked, ends_by_store, is_possible, is_serving, is_signing, tells, uses_line};
+ghost use Rattle.gateway_cmd.specs.Report.{is_plain, IsStatus, Says, Reports, end_of, outcome_of_presigning, recovered, surveyed_line, swept_line, trial_report_line, code_of, line_of, outcome_of_trial};
+ghost use Rattle.gateway_cmd.specs.Tasks.{asked_for, to_serve, to_sign, to_presign, to_recover, to_sweep, to_check, Serving, service_of, to_try};
 ghost use Rattle.gateway_cmd.specs.declared.status.RunOutcome.{RunOutcome as how};
 ghost use Rattle.gateway_cmd.specs.declared.status.RunOutcome.TheVariants as ends;
 ghost use Rattle.gateway_cmd.specs.declared.status.Status.TheVariants.{Done};
 ghost use Rattle.gateway_cmd.specs.Run.{RunTraced, RunStands, RunRefines};
-ghost use Rattle.gateway_cmd.specs.Session.{Does, HasWorked, LineServed, StoreRecovered, StoreTried};
+ghost use Rattle.gateway_cmd.specs.Session.{LineServed, StoreRecovered, StoreTried};
 ghost use Rattle.gateway_cmd.specs.Sweeps.{LeavesSwept, StoreSurveyed, StoreSwept, Surveys, Sweeps};
 
 use crate::attempt::attempt;
@@ -114,6 +117,17 @@ pub fn run<N: Line<W>, R: Sink, W: Swift, C: Clock, D: Draws>(
     // A run that tries the store: 4 comes only where the store's count of faults rose, and 7 never over a consistent account.
     ensures trying { (number requests : ℕ) → asked_for words.now ≡ to_try number requests
         → StoreTried result (W.history store.old) (W.history store.new) }
+
+    // By 0 and 6, where that count did not rise, what was written for the requests are their replies in print alone, each in whole: none
+    // is ServiceUnavailable or the out-of-memory reply, and over an observable store with a consistent account (true) each is the
+    // machine's. The report has the number of these bytes and their hash.
+    ensures replied { (number requests : ℕ) → asked_for words.now ≡ to_try number requests
+        → (result ≡ 0) ⊎ (result ≡ 6)
+        → (Rose (W.history store.old).faults (W.history store.new).faults → ⊥)
+        → (all : Bool) → Where all (Met Any (W.history store.old)) → (output : List ℕ)
+        × TrialReplied all number requests (W.history store.old) output (W.history store.new)
+        × Reports (trial_report_line requests (min (length output) (2 ^ 64 - 1)) (sha256 output))
+        (R.model report.old) (R.model report.new) }
 
     // The task was done as its end says, over line, store, clock and draws. The report has the lines of that end, and nothing else;
     // where its count of faults rose, the first bytes of them. It is left alone where all connections were served.

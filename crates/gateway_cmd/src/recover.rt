@@ -3,8 +3,9 @@ ghost use Rattle.std.specs.Prelude.{◌≡◌, true, Result as result_of, Err};
 ghost use Rattle.account_calls.specs.Calls.{GoesOn};
 ghost use Rattle.recovery.specs.declared.state.SettleFault.{SettleFault as why};
 ghost use Rattle.recovery.specs.Settling.{Settles};
-ghost use Rattle.gateway_cmd.specs.Report.{Fits, recovered};
-ghost use Rattle.gateway_cmd.specs.Tasks.{Task, ends_by_store, to_recover};
+ghost use Rattle.gateway_cmd.specs.Facts.{Fits, ends_by_store};
+ghost use Rattle.gateway_cmd.specs.Report.{recovered};
+ghost use Rattle.gateway_cmd.specs.Tasks.{Task, to_recover};
 
 use crate::status::{RunOutcome, Status, Told};
 use gate_base::Bytes;
@@ -41,13 +42,15 @@ pub fn unsettled_outcome(fault: SettleFault) -> RunOutcome
     }
 }
 
-/// Settles the store, by settings of no region and no least part: settling uses neither.
+/// Settles the store, by settings of no region and no sizes: settling uses none of them.
 pub fn settle_for_command<W: Swift>(alloc: Global, store: &mut W) -> Result<(), SettleFault>
     ensures { Settles (W.history store.old) (W.history store.new) result }
 {
     let settings = Settings {
         region: Bytes::new(alloc),
         least_part: 0,
+        largest_body: 0,
+        extended: false,
     };
     Unsure::open(alloc, store, &settings).settle()
 }

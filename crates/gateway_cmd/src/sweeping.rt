@@ -4,9 +4,10 @@ ghost use Rattle.account_calls.specs.Calls.{GoesOn};
 ghost use Rattle.sweep.specs.Swept.{SweepsBefore};
 ghost use Rattle.sweep.specs.declared.account.SweepFault.{SweepFault as why};
 ghost use Rattle.sweep.specs.declared.account.Swept.{Swept as counts};
-ghost use Rattle.gateway_cmd.specs.Report.{Fits, swept_outcome, unswept};
+ghost use Rattle.gateway_cmd.specs.Facts.{Fits, ends_by_store};
+ghost use Rattle.gateway_cmd.specs.Report.{swept_outcome, unswept};
 ghost use Rattle.gateway_cmd.specs.Sweeps.{Surveys, Sweeps};
-ghost use Rattle.gateway_cmd.specs.Tasks.{Task, ends_by_store, to_check, to_sweep};
+ghost use Rattle.gateway_cmd.specs.Tasks.{Task, to_check, to_sweep};
 
 use crate::recover::{settle_for_command, unsettled_outcome};
 use crate::status::{RunOutcome, Status, Told};

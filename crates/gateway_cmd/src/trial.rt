@@ -1,7 +1,8 @@
 //! The command `trial`: requests that a number determines are answered over the store, as one connection.
 ghost use Rattle.std.specs.Prelude.{◌≡◌, ◌≢◌, ◌≤◌, ℕ, List};
 ghost use Rattle.account_calls.specs.Calls.{GoesOn};
-ghost use Rattle.gateway_cmd.specs.Report.{Fits, tried};
+ghost use Rattle.gateway_cmd.specs.Facts.{Fits};
+ghost use Rattle.gateway_cmd.specs.Report.{tried};
 ghost use Rattle.gateway_cmd.specs.Session.{RunTries};
 ghost use Rattle.gateway_cmd.specs.Tasks.{to_try};
 ghost use Rattle.gateway_cmd.specs.declared.status.RunOutcome.TheVariants as ends;

@@ -24,7 +24,7 @@ use environment::{
     number_in_variable, place_fault, required_variable, variable, words,
 };
 use gate_base::{Bytes, Copying, Line, RandomDraws, StdLine, StdSink, SystemClock};
-use gateway_cli::{Command, read_words};
+use gateway_cli::{Command, USUAL_LARGEST_BODY, read_words};
 use gateway_cmd::run;
 use memory_swift::memory_store;
 use sigv4::Keys;
@@ -47,6 +47,8 @@ const KEYS: &str = "S3GATE_KEYS";
 const LISTEN: &str = "S3GATE_LISTEN";
 
 const STORE: &str = "S3GATE_STORE";
+
+const AHEAD: &str = "S3GATE_AHEAD";
 
 /// The exit status where the words or the key text are refused.
 const REFUSED: u8 = 2;
@@ -120,7 +122,7 @@ fn start_with(rt: &HostRuntime, words: &[String], keys: &str) -> Result<u8, Setu
 /// A run over the clients that come, and the Swift store. Replies that are kept for slow clients are sent before it ends; the status
 /// is that of the run, as no client's failure has one.
 fn serve(rt: &HostRuntime, words: &[String], keys: &str) -> Result<u8, SetupFault> {
-    let mut line = clients(rt)?;
+    let mut line = clients(rt, largest_body(rt, words, keys))?;
     let status = serve_on(rt, words, keys, &mut line);
     let _ = line.into_line().finish();
     status
@@ -166,7 +168,7 @@ fn begin_command(
     let limits = limits(rt, limit)?;
     let mut log = log(rt)?;
     say_start(rt, &mut log, command, keys, place, limits)?;
-    probe_store(rt, &mut log, place, limit)
+    probe_store(rt, &mut log, place, largest_body_of(command), limit)
 }
 
 /// A run over the clients that come, and the Swift store at that place.
@@ -199,9 +201,24 @@ fn say_end_of(rt: &HostRuntime, command: &Command) -> Result<(), SetupFault> {
 fn limits(rt: &HostRuntime, store: u64) -> Result<Limits, SetupFault> {
     Ok(Limits {
         idle: number_in_variable(rt, "S3GATE_IDLE", USUAL_IDLE, LONGEST)?,
-        ahead: number_in_variable(rt, "S3GATE_AHEAD", USUAL_AHEAD, MOST_AHEAD)?,
+        ahead: number_in_variable(rt, AHEAD, USUAL_AHEAD, MOST_AHEAD)?,
         store,
     })
+}
+
+/// The most bytes of a body by the words, or the usual ones where those are to be refused.
+fn largest_body(rt: &HostRuntime, words: &[String], keys: &str) -> u64 {
+    match accepted_command(rt, words, keys) {
+        Some(command) => largest_body_of(&command),
+        None => USUAL_LARGEST_BODY,
+    }
+}
+
+fn largest_body_of(command: &Command) -> u64 {
+    match command {
+        Command::Serve { largest_body, .. } => *largest_body,
+        _ => USUAL_LARGEST_BODY,
+    }
 }
 
 /// What the words ask for, where neither they nor the key text are to be refused.
@@ -235,7 +252,7 @@ fn probe_accepted(
 ) -> Result<(), SetupFault> {
     if is_accepted(rt, words, keys) {
         let mut log = log(rt)?;
-        probe_store(rt, &mut log, place, limit)?;
+        probe_store(rt, &mut log, place, USUAL_LARGEST_BODY, limit)?;
     }
     Ok(())
 }
@@ -322,11 +339,11 @@ fn read_key_file(rt: &HostRuntime, path: &str) -> Result<String, SetupFault> {
 ///
 /// The listener is the first that is opened and stays. So where standard error is closed its number is the listener's, to which no
 /// line can be written, and never that of a client or of the store.
-fn clients(rt: &HostRuntime) -> Result<Clients, SetupFault> {
+fn clients(rt: &HostRuntime, largest: u64) -> Result<Clients, SetupFault> {
     let limit = number_in_variable(rt, "S3GATE_IDLE", USUAL_IDLE, LONGEST)?;
-    let ahead = ahead(rt)?;
+    let ahead = ahead(rt, largest)?;
     let log = log(rt)?;
-    let line = tcp_line(rt, limit, ahead)?;
+    let line = tcp_line(rt, limit, ahead, largest)?;
     Ok(LoggedLine::new(line, log, SocketPeers))
 }
 
@@ -334,6 +351,7 @@ fn tcp_line(
     rt: &HostRuntime,
     limit: u64,
     ahead: usize,
+    largest: u64,
 ) -> Result<TcpLine<HostRuntime>, SetupFault> {
     let listener = listener_at_variable_place(rt, LISTEN)?;
     match TcpLine::new(
@@ -343,6 +361,7 @@ fn tcp_line(
         limit,
         None,
         ahead,
+        largest as usize,
     ) {
         Ok(line) => Ok(line),
         Err(error) if error.kind() == ErrorKind::OutOfMemory => Err(SetupFault::Memory),
@@ -350,10 +369,15 @@ fn tcp_line(
     }
 }
 
-/// How many bytes are read ahead or kept to be sent, at most.
-fn ahead(rt: &HostRuntime) -> Result<usize, SetupFault> {
-    let count = number_in_variable(rt, "S3GATE_AHEAD", USUAL_AHEAD, MOST_AHEAD)?;
-    Ok(count.saturating_mul(MEBIBYTE) as usize)
+/// How many bytes are read ahead or kept to be sent, at most. Bodies of more bytes than the usual ones are read ahead whole, so that
+/// one of them has to have room.
+fn ahead(rt: &HostRuntime, largest: u64) -> Result<usize, SetupFault> {
+    let count = number_in_variable(rt, AHEAD, USUAL_AHEAD, MOST_AHEAD)?;
+    let bytes = count.saturating_mul(MEBIBYTE);
+    if USUAL_LARGEST_BODY < largest && bytes < largest {
+        return Err(SetupFault::Variable(AHEAD, Why::BelowBody(largest)));
+    }
+    Ok(bytes as usize)
 }
 
 /// A log on standard error, unless the environment ends it.

@@ -3,6 +3,7 @@
 use crate::said::ErrorLog;
 use environment::{SetupFault, Why, clone_environment_runtime};
 use gate_base::{Bytes, CALL_LIMIT, Copying, Counted, Memory};
+use gateway_cli::USUAL_LARGEST_BODY;
 use http_answers::{Announced, announced_by_answer_head};
 use serde_json::Value;
 use std::alloc::Global;
@@ -13,22 +14,22 @@ use wire_log::{Cause, Explains, logged_cause_of_answer};
 /// How many seconds these questions may wait, at most.
 const LONGEST_PROBE: u64 = 10;
 
-/// How many segments a manifest of the gateway may have, and how many bytes an object that it puts.
+/// How many segments a manifest of the gateway may have.
 const SEGMENTS: u64 = 1000;
 
-const BODY: u64 = 16_777_216;
-
-/// Refuses a store that says of itself that it can't bear the gateway, or refuses the token or the account. One that doesn't say, or
+/// Refuses a store that says of itself that it can't bear the gateway, which puts objects of up to `largest` bytes and of the usual
+/// ones, or that refuses the token or the account. One that doesn't say, or
 /// isn't there, is a line of the log.
 pub fn probe_store(
     rt: &HostRuntime,
     log: &mut ErrorLog,
     place: &Place,
+    largest: u64,
     limit: u64,
 ) -> Result<(), SetupFault> {
     let request = info_request(rt.alloc(), place)?;
     match answer_of_store(rt, place, limit, request.as_slice())? {
-        Ok(answer) => judge_info(rt, log, answer.as_slice())?,
+        Ok(answer) => judge_info(rt, log, largest, answer.as_slice())?,
         Err(cause) => {
             log.say_store(place.host.as_slice(), b"no /info: ", cause);
             return Ok(());
@@ -107,9 +108,14 @@ fn judge_account(answer: &[u8]) -> Result<(), SetupFault> {
     }
 }
 
-fn judge_info(rt: &HostRuntime, log: &mut ErrorLog, answer: &[u8]) -> Result<(), SetupFault> {
+fn judge_info(
+    rt: &HostRuntime,
+    log: &mut ErrorLog,
+    largest: u64,
+    answer: &[u8],
+) -> Result<(), SetupFault> {
     match info_of_answer(rt.alloc(), answer)? {
-        Some(info) => match fault_of_info(&info) {
+        Some(info) => match fault_of_info(&info, largest.max(USUAL_LARGEST_BODY)) {
             Some(why) => Err(SetupFault::Variable("S3GATE_STORE", why)),
             None => Ok(()),
         },
@@ -137,7 +143,7 @@ fn info_of_answer(alloc: Global, answer: &[u8]) -> Result<Option<Value>, Memory>
     }
 }
 
-fn fault_of_info(info: &Value) -> Option<Why> {
+fn fault_of_info(info: &Value, body: u64) -> Option<Why> {
     let Some(slo) = info.get("slo") else {
         return Some(Why::NoSlo);
     };
@@ -148,8 +154,8 @@ fn fault_of_info(info: &Value) -> Option<Why> {
         Some(swift) => swift.get("max_file_size"),
         None => None,
     };
-    if is_below(largest, BODY) {
-        return Some(Why::SmallObjects(BODY));
+    if is_below(largest, body) {
+        return Some(Why::SmallObjects(body));
     }
     None
 }

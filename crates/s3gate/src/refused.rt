@@ -3,10 +3,22 @@
 use gate_base::{Bytes, Memory};
 use std::alloc::Global;
 
-/// The commands, each with its options. Every option has a value.
+/// The commands, each with its options. Every option but the flag has a value.
 const COMMANDS: [(&[u8], &[&[u8]]); 8] = [
-    (b"session", &[b"--region", b"--least-part"]),
-    (b"serve", &[b"--connections", b"--region", b"--least-part"]),
+    (
+        b"session",
+        &[b"--region", b"--least-part", b"--largest-body", FLAG],
+    ),
+    (
+        b"serve",
+        &[
+            b"--connections",
+            b"--region",
+            b"--least-part",
+            b"--largest-body",
+            FLAG,
+        ],
+    ),
     (b"recover", &[]),
     (b"sweep", &[b"--forget-before"]),
     (b"check", &[]),
@@ -14,6 +26,9 @@ const COMMANDS: [(&[u8], &[&[u8]]); 8] = [
     (b"presign", &[b"--key", b"--region", b"--expires"]),
     (b"trial", &[b"--number", b"--requests"]),
 ];
+
+/// The option without a value.
+const FLAG: &[u8] = b"--extended";
 
 /// The longest name of an option that is repeated.
 const LONGEST_NAME: usize = 64;
@@ -73,7 +88,7 @@ fn foreign_word<'a>(options: &[&[u8]], words: &'a [String]) -> Option<&'a [u8]> 
         if is_value {
             is_value = false;
         } else if options.iter().any(|option| *option == name) {
-            is_value = name.len() == word.len();
+            is_value = name != FLAG && name.len() == word.len();
         } else {
             return Some(name);
         }

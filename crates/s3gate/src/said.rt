@@ -3,7 +3,7 @@
 use crate::version::VERSION;
 use environment::{SetupFault, variable};
 use gate_base::{Bytes, Memory, StdSink};
-use gateway_cli::Command;
+use gateway_cli::{Command, USUAL_LARGEST_BODY};
 use std::alloc::Global;
 use swift_requests::Place;
 use wire_log::Log;
@@ -77,11 +77,30 @@ fn append_words(alloc: Global, line: &mut Bytes, command: &Command) -> Result<()
         region,
         connections,
         least_part,
+        largest_body,
+        extended,
     } = command
     {
         append_named(line, b", region ", region.as_slice())?;
         append_count(alloc, line, b", connections ", *connections, b"")?;
         append_count(alloc, line, b", least part ", *least_part, b"")?;
+        append_profile(alloc, line, *largest_body, *extended)?;
+    }
+    Ok(())
+}
+
+/// What is asked for beyond the usual, which isn't said.
+fn append_profile(
+    alloc: Global,
+    line: &mut Bytes,
+    largest_body: u64,
+    extended: bool,
+) -> Result<(), Memory> {
+    if largest_body != USUAL_LARGEST_BODY {
+        append_count(alloc, line, b", largest body ", largest_body, b"")?;
+    }
+    if extended {
+        line.append(b", extended")?;
     }
     Ok(())
 }

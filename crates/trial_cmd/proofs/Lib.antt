@@ -3,3 +3,4 @@ pub mod Keys
 pub mod Lines
 pub mod Moments
 pub mod Outputs
+pub mod Replying

@@ -1,6 +1,6 @@
 -- The moments of a trial are ones that a clock may give.
-use Rattle.std.proofs.Common.{◌≡◌, ◌∙◌, ◌<◌, ◌≤◌, ℕ, zero, suc, ◌+◌, true, List, [], ◌∷◌, ◌++◌, refl, sym, ap, subst, length, length-append, arith}
-use Rattle.std.specs.Prelude.{IsTrue, nat_lt, max}
+use Rattle.std.proofs.Common.{◌≡◌, ◌∙◌, ◌<◌, ◌≤◌, ℕ, zero, suc, ◌+◌, true, [], ◌∷◌, ◌++◌, refl, ap, length, length-append, arith}
+use Rattle.std.specs.Prelude.{nat_lt, max}
 use Rattle.std.specs.List.{list_all}
 use Rattle.std.proofs.lemmas.Bool.{and_from, lt-ltb}
 use Rattle.std.proofs.lemmas.List.Folds.{list_all-append}

@@ -3,7 +3,7 @@ use Rattle.std.proofs.Common.{◌≡◌, ◌∙◌, ◌<◌, ℕ, ◌+◌, ◌-�
 use Rattle.std.proofs.lemmas.List.{take_more}
 use Rattle.std.proofs.lemmas.List.Concat.{flat_map-append}
 use Rattle.gate_base.specs.declared.outside.Piece.{Piece}
-use Rattle.trial_cmd.specs.Served.{output_of}
+use Rattle.trial_cmd.specs.Replied.{output_of}
 
 pub output_more : (pieces : List Piece) (i : ℕ) (piece : Piece) → i < length pieces → piece ≡ get_or pieces i piece → output_of (take (i + 1) pieces) ≡ output_of (take i pieces) ++ piece.bytes
 output_more pieces i piece below same =

@@ -27,6 +27,8 @@ pub(crate) fn trial_service(alloc: Global) -> Result<Service, Memory>
         settings: Settings {
             region: Bytes::from_slice(alloc, b"us-east-1")?,
             least_part: 1,
+            largest_body: 16_777_216,
+            extended: false,
         },
         keys,
     })

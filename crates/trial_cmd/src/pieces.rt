@@ -1,7 +1,7 @@
 //! The size and the hash of what was written, piece by piece.
 ghost use Rattle.std.specs.Prelude.{◌≡◌, ◌-◌, ◌^◌, length, min};
 ghost use Rattle.sha2.specs.Sha256.{sha256};
-ghost use Rattle.trial_cmd.specs.Served.{output_of};
+ghost use Rattle.trial_cmd.specs.Replied.{output_of};
 
 use gate_base::Piece;
 use sha2::{Digest, Sha256};

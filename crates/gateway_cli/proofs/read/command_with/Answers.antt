@@ -10,8 +10,10 @@ returns-in-Session-clause-reads c =
     let found = found_of c.args.found.now in
     let region = given found (codes "region") c.get_str.ensures in
     let least = given found (codes "least-part") c.get_str-in-Session.ensures in
+    let largest = given found (codes "largest-body") c.get_str-in-Session-2.ensures in
+    let extended = given found (codes "extended") c.get_str-in-Session-3.ensures in
     reads_where _ _ c.session_command_by_options.result
-    (ap (command_with (rows_of found)) c.in-Session.is ∙ (λ i. session_command_by_options (region i) (least i)))
+    (ap (command_with (rows_of found)) c.in-Session.is ∙ (λ i. session_command_by_options (region i) (least i) (largest i) (extended i)))
     c.session_command_by_options.ensures.reads
 
 pub returns-in-Serve-clause-reads : goal.returns-in-Serve-clause-reads
@@ -20,8 +22,10 @@ returns-in-Serve-clause-reads c =
     let region = given found (codes "region") c.get_str-in-Serve.ensures in
     let connections = given found (codes "connections") c.get_str-in-Serve-2.ensures in
     let least = given found (codes "least-part") c.get_str-in-Serve-3.ensures in
+    let largest = given found (codes "largest-body") c.get_str-in-Serve-4.ensures in
+    let extended = given found (codes "extended") c.get_str-in-Serve-5.ensures in
     reads_where _ _ c.serve_command_by_options.result
-    (ap (command_with (rows_of found)) c.in-Serve.is ∙ (λ i. serve_command_by_options (region i) (connections i) (least i)))
+    (ap (command_with (rows_of found)) c.in-Serve.is ∙ (λ i. serve_command_by_options (region i) (connections i) (least i) (largest i) (extended i)))
     c.serve_command_by_options.ensures.reads
 
 pub returns-in-Sign-clause-reads : goal.returns-in-Sign-clause-reads

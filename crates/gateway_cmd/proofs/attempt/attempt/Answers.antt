@@ -1,6 +1,6 @@
 use Rattle.std.proofs.Common.{refl}
 use Rattle.gateway_cmd.specs.Session.{out_of_memory}
-use Rattle.gateway_cmd.proofs.Sessions.{does_none}
+use Rattle.gateway_cmd.proofs.TaskLaws.{does_none}
 use Rattle.gateway_cmd.proofs.attempt.attempt.Goals as goal
 
 pub returns-in-Err-Memory-clause-does : goal.returns-in-Err-Memory-clause-does

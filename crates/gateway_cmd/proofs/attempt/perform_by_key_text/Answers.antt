@@ -1,4 +1,5 @@
-use Rattle.gateway_cmd.proofs.Sessions.{does_none, idle_admits, idle_fits}
+use Rattle.gateway_cmd.proofs.Sessions.{idle_fits}
+use Rattle.gateway_cmd.proofs.TaskLaws.{does_none, idle_admits}
 use Rattle.gateway_cmd.proofs.attempt.perform_by_key_text.Goals as goal
 
 pub returns-in-Err-clause-admits : goal.returns-in-Err-clause-admits

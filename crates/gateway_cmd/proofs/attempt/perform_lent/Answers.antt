@@ -1,11 +1,13 @@
 use Rattle.std.proofs.Common.{◌≡◌, true, [], Some, refl, sym, subst}
+use Rattle.gateway_cmd.specs.Facts.{Fits, is_possible}
 use Rattle.gateway_cmd.specs.declared.status.RunOutcome.TheVariants.{Plain}
 use Rattle.gateway_cmd.specs.declared.status.Status.TheVariants.{Memory}
-use Rattle.gateway_cmd.specs.Report.{Fits, Admits}
+use Rattle.gateway_cmd.specs.Report.{Admits}
 use Rattle.gateway_cmd.specs.Session.{out_of_memory, was_settled, was_swept, was_surveyed}
-use Rattle.gateway_cmd.specs.Tasks.{task_of, is_possible}
+use Rattle.gateway_cmd.specs.Tasks.{task_of}
 use Rattle.sigv4.specs.Keys.{keys_of, are_keys}
-use Rattle.gateway_cmd.proofs.Sessions.{does_none, idle_admits, idle_fits}
+use Rattle.gateway_cmd.proofs.Sessions.{idle_fits}
+use Rattle.gateway_cmd.proofs.TaskLaws.{does_none, idle_admits}
 use Rattle.gateway_cmd.proofs.Trials.{tries_admits}
 use Rattle.gateway_cmd.proofs.attempt.perform_lent.Goals as goal
 

@@ -4,17 +4,18 @@ use Rattle.swift_calls.proofs.lemmas.Histories.{is_fault_free}
 use Rattle.account_calls.specs.declared.state.Known.TheVariants.{Unsure}
 use Rattle.sign_cmd.specs.Signing.{SignsOn}
 use Rattle.gateway.specs.World.{world}
+use Rattle.gateway_cmd.specs.Facts.{is_serving}
 use Rattle.gateway_cmd.specs.declared.status.Status.TheVariants.{Memory}
 use Rattle.gateway_cmd.specs.Report.{Says}
-use Rattle.gateway_cmd.specs.Tasks.{asked_for, is_serving}
+use Rattle.gateway_cmd.specs.Tasks.{asked_for}
 use Rattle.gateway_cmd.proofs.Exits.{Exits, says_exits, exits_status, exits_usage, asked_by, exits_asked, exits_done, exits_other, exits_told_of, told_of, admitted, serving_plain, exits_failed_run, serving_line}
 use Rattle.gateway_cmd.proofs.Sessions.{run_traced, run_stands, run_refines, unsure_met}
 use Rattle.gateway_cmd.proofs.Recoveries.{store_recovered, was_tried}
 use Rattle.gateway_cmd.proofs.Surveying.{store_surveyed, survey_reports, was_counted}
 use Rattle.gateway_cmd.proofs.SweepRuns.{was_cleared}
 use Rattle.gateway_cmd.proofs.SweptBy.{store_swept, sweep_reports}
-use Rattle.gateway_cmd.proofs.Trials.{store_tried, was_answered}
-use Rattle.gateway_cmd.proofs.Works.{works}
+use Rattle.gateway_cmd.proofs.Trials.{store_tried, trial_reports, was_answered}
+use Rattle.gateway_cmd.proofs.TaskLaws.{works}
 use Rattle.gateway_cmd.proofs.command.run.Goals as goal
 
 pub returns-clause-status : goal.returns-clause-status
@@ -100,6 +101,12 @@ pub returns-clause-trying : goal.returns-clause-trying
 returns-clause-trying g c = λ number requests is.
     let run = rw is at c.attempt-ended.ensures.does in
     store_tried {old = g.W.Swift.history c.args.store.now} {new = g.W.Swift.history c.attempt-ended.new.store} c.tell.result (says_exits _ _ _ c.tell.ensures.says.1) run
+
+pub returns-clause-replied : goal.returns-clause-replied
+returns-clause-replied g c = λ number requests is e still all met.
+    let run = rw is at c.attempt-ended.ensures.does in
+    let says = c.tell.ensures.says in
+    trial_reports {all = all} {old = g.W.Swift.history c.args.store.now} {new = g.W.Swift.history c.attempt-ended.new.store} c.tell.result says.0 says.1 says.2 run e still met
 
 pub returns-clause-report : goal.returns-clause-report
 returns-clause-report g c =

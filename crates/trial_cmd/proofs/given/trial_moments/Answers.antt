@@ -2,7 +2,7 @@ use Rattle.std.proofs.Common.{◌≡◌, ◌∙◌, ◌+◌, ◌<◌, ◌++◌, 
 use Rattle.std.specs.Prelude.{nat_lt}
 use Rattle.std.specs.List.{list_all}
 use Rattle.gate_base.specs.declared.outside.TheConstants.{MOMENT_LIMIT}
-use Rattle.trial_cmd.specs.Served.{first_moments, trial_moments}
+use Rattle.trial_cmd.specs.Served.{first_moments}
 use Rattle.trial_cmd.proofs.Moments.{moments_start, moments_more, trial_moments_some, trial_moments_early}
 use Rattle.trial_cmd.proofs.given.trial_moments.Goals as goal
 

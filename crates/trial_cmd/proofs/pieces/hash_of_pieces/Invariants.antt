@@ -1,6 +1,6 @@
 use Rattle.std.proofs.Common.{take}
 use Rattle.sha2.specs.Hashers.{Holds256}
-use Rattle.trial_cmd.specs.Served.{output_of}
+use Rattle.trial_cmd.specs.Replied.{output_of}
 use Rattle.trial_cmd.proofs.pieces.hash_of_pieces.Given as goal
 
 -- the hasher holds the pieces so far

@@ -1,4 +1,4 @@
-use Rattle.std.proofs.Common.{◌∙◌, refl, ap}
+use Rattle.std.proofs.Common.{◌∙◌, ap}
 use Rattle.gate_base.specs.ListTold.{draws_from}
 use Rattle.gate_base.specs.MemLine.{model_of}
 use Rattle.trial_cmd.proofs.Causes.{talks_by}

@@ -1,12 +1,12 @@
-use Rattle.std.proofs.Common.{refl, sym, ap, ◌∙◌}
+use Rattle.std.proofs.Common.{refl, ap, ◌∙◌}
 use Rattle.std.specs.Prelude.{◌-◌, ◌^◌, min, length}
 use Rattle.gate_base.specs.ListTold.{draws_of, moments_of, source_of}
 use Rattle.gate_base.specs.MemLine.{model_of}
 use Rattle.account_calls.specs.declared.state.Known.TheVariants.{Unsure}
 use Rattle.gateway.specs.World.{World, IsObservable, world}
 use Rattle.sha2.specs.Sha256.{sha256}
-use Rattle.trial_cmd.specs.Served.{output_of}
-use Rattle.trial_cmd.proofs.Causes.{failed_rose, never_found}
+use Rattle.trial_cmd.specs.Replied.{output_of}
+use Rattle.trial_cmd.proofs.Causes.{written_alone, failed_rose, never_found}
 use Rattle.trial_cmd.proofs.serve.serve_trial_line.Goals as goal
 
 pub returns : goal.returns
@@ -26,5 +26,6 @@ returns g c =
       size = c.size_of_pieces.ensures ∙ ap (λ pieces. min (length (output_of pieces)) (2 ^ 64 - 1)) c.pieces.ensures;
       failed = failed_rose c.args.service.now c.serve_connection-ended.result old new c.law_failed_store_rose.ensures served.serves told;
       consistent = never_found c.args.service.now c.serve_connection-ended.result old new c.law_found_consistent.ensures served.serves told refl;
+      alone = written_alone c.args.service.now c.serve_connection-ended.result old new served.serves told refl;
       hash = c.hash_of_pieces.ensures ∙ ap (λ pieces. sha256 (output_of pieces)) c.pieces-2.ensures;
     }
