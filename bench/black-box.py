@@ -36,6 +36,7 @@ import time
 from urllib.parse import quote
 
 sys.dont_write_bytecode = True
+import chunk_bodies
 from scripted_swift import ACCOUNT, INFO, TOKEN, Segments, Store, answer, cut_answer, http, lose_answer, lose_request, ordinary, ordinary_and_closed, plain, raw, silent, unasked
 
 # How the line serves its clients: "in turn", one connection at a time, or "side by side". A group that is marked with one of them
@@ -61,7 +62,7 @@ KEYS = os.path.join(ROOT, "examples/keys.txt")
 USAGE = b"usage: s3gate session|serve|recover|sweep|check|sign|trial|presign\n"
 SETUP = b"s3gate: setup\n"
 BUILT = b"s3gate: built are session, serve, recover, sweep, check, sign, presign and trial\n"
-OPTIONS = {"session": "; it has --region, --least-part\n", "serve": "; it has --connections, --region, --least-part\n", "recover": "; it has none\n", "sweep": "; it has --forget-before\n", "check": "; it has none\n", "sign": "; it has --key, --region\n", "presign": "; it has --key, --region, --expires\n", "trial": "; it has --number, --requests\n"}
+OPTIONS = {"session": "; it has --region, --least-part, --largest-body, --extended\n", "serve": "; it has --connections, --region, --least-part, --largest-body, --extended\n", "recover": "; it has none\n", "sweep": "; it has --forget-before\n", "check": "; it has none\n", "sign": "; it has --key, --region\n", "presign": "; it has --key, --region, --expires\n", "trial": "; it has --number, --requests\n"}
 
 
 def not_taken(command, what):
@@ -391,12 +392,12 @@ GET, FOUND = ("GET", "/photos/a"), (200, b"abc")
 def words_and_environment_of_s3gate(check):
     place = "%s:%d" % PLACES.take()
     usual = {"S3GATE_LISTEN": place, "S3GATE_STORE": NOWHERE, "S3GATE_ACCOUNT": ACCOUNT, "S3GATE_TOKEN": TOKEN}
-    for words in (["photos"], ["serve", "photos"], ["serve", "--connections", "0"], ["serve", "--connections", "1000000001"], ["serve", "--least-part", "0"], ["serve", "--least-part", "16777217"], ["serve", "--region", ""], ["serve", "--region", "US"]):
+    for words in (["photos"], ["serve", "photos"], ["serve", "--connections", "0"], ["serve", "--connections", "1000000001"], ["serve", "--least-part", "0"], ["serve", "--least-part", "16777217"], ["serve", "--largest-body", "0"], ["serve", "--largest-body", "1073741825"], ["serve", "--region", ""], ["serve", "--region", "US"]):
         output, report = (b"", USAGE + not_taken("serve", FORM if words[1:2] != ["photos"] else ALONE)) if words[0] == "serve" else (USAGE, BUILT)
         check(f"the words {' '.join(words)!r}", (2, output, report), ran(S3GATE, words, **usual))
     check("no words", (2, USAGE, BUILT), ran(S3GATE, []))
     check("another word for a session", (2, b"", USAGE + not_taken("session", ALONE)), ran(S3GATE, ["session", "photos"]))
-    for words, what in ((["--conections", "1"], "has no option --conections"), (["--region", "eu", "--port=80"], "has no option --port"), (["-v"], "has no option -v"), (["--region"], FORM), (["--region=a", "--region=b"], FORM), (["--connections", "--token"], FORM), (["--\x01"], ALONE)):
+    for words, what in ((["--conections", "1"], "has no option --conections"), (["--region", "eu", "--port=80"], "has no option --port"), (["-v"], "has no option -v"), (["--region"], FORM), (["--region=a", "--region=b"], FORM), (["--connections", "--token"], FORM), (["--extended", "--extended"], FORM), (["--extended=on"], FORM), (["--extended", "on"], ALONE), (["--extended", "--port"], "has no option --port"), (["--\x01"], ALONE)):
         check(f"serve {' '.join(words)!r}", (2, b"", USAGE + not_taken("serve", what)), ran(S3GATE, ["serve", *words], **usual))
     for command, words in (("sign", ["--region", "eu"]), ("presign", ["--key", "a"])):
         check(f"{command} without an option", (2, USAGE, not_taken(command, FORM)), ran(S3GATE, [command, *words]))
@@ -421,6 +422,9 @@ def words_and_environment_of_s3gate(check):
     for name, most in (("S3GATE_IDLE", 86400), ("S3GATE_STORE_TIMEOUT", 86400), ("S3GATE_AHEAD", 65536)):
         for text in ("", "0", "-1", "1s", " 1", "1.5", str(most + 1), "18446744073709551616"):
             check(f"{name} {text!r}", (9, b"", SETUP + f"{name}: not a number from 1 to {most}\n".encode()), ran(S3GATE, ["serve"], **{**usual, name: text}))
+    for size, ahead in ((67108865, None), (16777217, "15"), (1073741824, "1023")):
+        given = {**usual, **({"S3GATE_AHEAD": ahead} if ahead else {})}
+        check(f"--largest-body {size} with S3GATE_AHEAD {ahead}", (9, b"", SETUP + f"S3GATE_AHEAD: holds no body of so many bytes: {size}\n".encode()), ran(S3GATE, ["serve", "--largest-body", str(size)], **given))
     for text in ("", "ON", "1", "offf"):
         check(f"S3GATE_LOG {text!r}", (9, b"", SETUP + b"S3GATE_LOG: neither on nor off\n"), ran(S3GATE, ["serve"], **{**usual, "S3GATE_LOG": text}))
     places = {"127.0.0.1": "no port, where HOST:PORT is wanted", "127.0.0.1:65536": "no port, where HOST:PORT is wanted", "127.0.0.1:port": "no port, where HOST:PORT is wanted", ":": "no host, where HOST:PORT is wanted", "http://127.0.0.1:8080": "has a scheme, where HOST:PORT is wanted"}
@@ -1261,6 +1265,10 @@ def a_store_that_cannot_bear_the_gateway(check):
                 check(f"{command} with {title}", (9, b"", SETUP + why.encode() + b"\n"), ran(S3GATE, [command], S3GATE_STORE=store.text, **environment))
             check(f"refused words with {title}", (2, USAGE), ran(S3GATE, ["recover", "x"], S3GATE_STORE=store.text, **environment)[:2])
             check("and no call was made", [], store.calls)
+    with Store(info={"/info": tell_other(with_number(LARGEST + 9, "swift", "max_file_size"))}, account=account()) as store:
+        why = b"S3GATE_STORE: the store takes no object of so many bytes: 16777226\n"
+        check("objects smaller than the largest body", (9, b"", SETUP + why), ran(S3GATE, ["serve", "--largest-body", str(LARGEST + 10)], S3GATE_STORE=store.text, **environment))
+        check("which nothing but serve asks for", False, ran(S3GATE, ["check"], S3GATE_STORE=store.text, **environment)[0] == 9)
     unknown = "s3gate: the store has no /info that can be read, so nothing is known of its limits"
     for title, info, said in (
         ("another number", {"/info": tell_other(with_number(1000, "slo", "max_manifest_segments"))}, []),
@@ -1922,7 +1930,7 @@ ODD = [
     ("names beside a missing bucket out of order", ("PUT", "/photos"), [*BESIDE, files_named(segment("00002"), segment("00001"))]),
     ("a file stored with another ETag", PUT_ABC, [OPEN, answer(201, [("Etag", ABD)])]),
     ("a file whose ETag isn't its tag's", GET, [OPEN, file(ABD)]),
-    ("a file past the largest size", GET, [OPEN, file(size=LARGEST + 1)]),
+    ("a file past the largest size", GET, [OPEN, file(size=1_073_741_825)]),
     ("a file with segments", GET, [OPEN, file(more=[("X-Static-Large-Object", "True")])]),
     ("a type without a tag", GET, [OPEN, answer(200, [("Content-Type", "text/plain"), ("Etag", ABC)], length=3)]),
     ("metadata that doesn't read", GET, [OPEN, file(more=[("X-Object-Meta-S3-0", "[7.3.-colourre]")])]),
@@ -2854,6 +2862,224 @@ def the_largest_bodies(check):
         reply = gate.ask("PUT", f"/photos/v?partNumber=1&uploadId={id_}", [], large)
         check("a part of 16 MiB goes", (200, f'"{hashlib.md5(large).hexdigest()}"'), (reply.status, reply.headers.get("etag")))
         check("and stands in the store", large, store.account["photos+segments"][1][f"{id_}/00001".encode()][1])
+
+
+@group(first=True)
+def larger_bodies(check):
+    """By the word a body may have more than 16 MiB, or fewer, and so may a part that is copied."""
+    larger = random.Random(4).randbytes(LARGEST + 10)
+    with Swiftd() as store, Gate(store.text, words=(*LEAST, "--largest-body", str(LARGEST + 10))) as gate, gate.client(request("PUT", "/photos")) as client:
+        client.reply()
+
+        def ask(*words):
+            client.send(request(*words))
+            return client.reply()
+
+        check("a body of ten bytes more goes", 200, ask("PUT", "/photos/a", [], larger).status)
+        check("and comes whole", larger, ask("GET", "/photos/a").body)
+        check("it is copied", (200, "Object", md5_of(larger)), copied(ask(*copy_of("/photos/a", "/photos/b"))))
+        u = text_of(b"UploadId", ask("POST", "/photos/u?uploads").body)[0]
+        check("also as a part", (200, "Part", md5_of(larger)), copied(ask(*copy_of("/photos/a", f"/photos/u?uploadId={u}&partNumber=1"))))
+        check("a part of as many goes", 200, ask("PUT", f"/photos/u?uploadId={u}&partNumber=2", [], larger).status)
+        check("they are completed", 200, ask("POST", f"/photos/u?uploadId={u}", [], completion((1, larger), (2, larger))).status)
+        check("which ends as they do", (206, larger[-5:]), both(ask("GET", "/photos/u", [("Range", f"bytes={2 * len(larger) - 5}-")])))
+        reply = gate.ask("PUT", "/photos/c", [], larger + b".")
+        check("one byte more is too much", (400, "EntityTooLarge"), (reply.status, reply.code))
+    with Swiftd() as store, Gate(store.text, words=("--largest-body", "10", "--extended")) as gate:
+        check("a bucket", 200, gate.ask("PUT", "/photos").status)
+        check("a body of as many bytes as are asked for", 200, gate.ask("PUT", "/photos/a", [], b"0123456789").status)
+        reply = gate.ask("PUT", "/photos/a", [], b"0123456789.")
+        check("and one of more", (400, "EntityTooLarge"), (reply.status, reply.code))
+
+
+# The extended profile: what clients have sent by default since 2025.
+
+EXTENDED = (*LEAST, "--extended", "--largest-body", "268435456")
+HOLDS = {"S3GATE_AHEAD": "256"}
+TRAILED = (chunk_bodies.UNSIGNED, chunk_bodies.SIGNED_TRAILER)
+
+
+def in_chunks(target, form, chunks, **more):
+    """A PUT of these chunks, signed for now."""
+    return chunk_bodies.Chunks(sign, "PUT", target, form, chunks, datetime.datetime.now(datetime.timezone.utc), **more)
+
+
+def other_byte(at, byte):
+    """Changes one byte of a piece, its last where `at` is -1."""
+    return lambda piece: piece[: at % len(piece)] + byte + piece[at % len(piece) + 1 :]
+
+
+def flipped(piece):
+    """Changes the lowest bit of the first byte."""
+    return bytes([piece[0] ^ 1]) + piece[1:]
+
+
+@group(first=True)
+def extended_bodies(check):
+    """Each form, cut by chance, as an object and as a part, up to 64 MiB."""
+    with Swiftd() as store, Gate(store.text, words=EXTENDED, **HOLDS) as gate, gate.client(request("PUT", "/photos")) as client:
+        client.reply()
+
+        def ask(text):
+            client.send(text)
+            return client.reply()
+
+        u, sizes = text_of(b"UploadId", ask(request("POST", "/photos/u?uploads")).body)[0], (1, 5, 65_536, 200_000, 0)
+        for form in chunk_bodies.FORMS:
+            for number, size in enumerate(sizes):
+                data = random.Random(size).randbytes(size)
+                chunks = chunk_bodies.cut_by_chance(data, seed=size)
+                trailers = [chunk_bodies.checksum(name, data) for name in list(chunk_bodies.CHECKSUMS)[number : number + 1]] if form in TRAILED else []
+                wanted = (200, f'"{hashlib.md5(data).hexdigest()}"')
+                reply = ask(in_chunks("/photos/k", form, chunks, trailers=trailers, digits="%X" if size % 2 else "%x").text())
+                check(f"{form}: {size} bytes in {len(chunks)} chunks", wanted, (reply.status, reply.headers.get("etag")))
+                reply = ask(request("GET", "/photos/k"))
+                check("which come as they were", (200, data, None), (*both(reply), reply.headers.get("content-encoding")))
+                reply = ask(in_chunks(f"/photos/u?uploadId={u}&partNumber={number + 1}", form, chunks, trailers=trailers).text())
+                check("and as a part", wanted, (reply.status, reply.headers.get("etag")))
+        check("the parts are completed", 200, ask(request("POST", f"/photos/u?uploadId={u}", [], completion(*((number + 1, random.Random(size).randbytes(size)) for number, size in enumerate(sizes))))).status)
+        reply = ask(in_chunks("/photos/g", chunk_bodies.SIGNED, [b"abc"], headers=[("Content-Type", "text/plain")]).text().replace(b"Content-Encoding: aws-chunked", b"Content-Encoding: gzip, aws-chunked"))
+        check("beside another encoding", 200, reply.status)
+        check("which is kept", "gzip", ask(request("GET", "/photos/g")).headers.get("content-encoding"))
+    large = random.Random(7).randbytes(64 << 20)
+    with Swiftd() as store, Gate(store.text, words=EXTENDED, **HOLDS) as gate:
+        gate.ask("PUT", "/photos")
+        for form in TRAILED:
+            asked = in_chunks("/photos/large", form, chunk_bodies.cut(large, [65_536]), trailers=[chunk_bodies.checksum("crc32", large)])
+            with gate.client(asked.text()) as client:
+                reply = client.reply()
+            check(f"{form}: a body of 64 MiB", (200, f'"{hashlib.md5(large).hexdigest()}"'), (reply.status, reply.headers.get("etag")))
+            check("comes as it was", hashlib.md5(large).hexdigest(), hashlib.md5(gate.ask("GET", "/photos/large").body).hexdigest())
+
+
+# What is wrong with a chunk, by the piece, its number, the change, and the code. A length that is another leads to bytes that aren't
+# of the form; a signature, or data, that are others show at the end of their chunk.
+BROKEN_CHUNKS = [
+    ("a shorter chunk", "length", 0, lambda it: b"4", "InvalidRequest"),
+    ("a longer one", "length", 0, lambda it: b"6", "InvalidRequest"),
+    ("a length that is none", "length", 1, lambda it: b"g", "InvalidRequest"),
+    ("a length of 17 digits", "length", 1, lambda it: b"00000000000000005", "InvalidRequest"),
+    ("no length", "length", 0, lambda it: b"", "InvalidRequest"),
+    ("a last chunk that isn't empty", "length", -1, lambda it: b"1", "InvalidRequest"),
+    ("a comma for the semicolon", "word", 0, other_byte(0, b","), "InvalidRequest"),
+    ("another word", "word", 1, other_byte(1, b"C"), "InvalidRequest"),
+    ("a colon for the equals sign", "word", 0, other_byte(-1, b":"), "InvalidRequest"),
+    ("no signature", "signature", 0, lambda it: b"", "InvalidRequest"),
+    ("a signature of 63 digits", "signature", 0, lambda it: it[1:], "InvalidRequest"),
+    ("one with a capital letter", "signature", 0, lambda it: b"A" + it[1:], "InvalidRequest"),
+    ("one with a letter past f", "signature", 1, lambda it: it[:-1] + b"g", "InvalidRequest"),
+    ("another signature", "signature", 0, lambda it: (b"1" if it[:1] == b"0" else b"0") + it[1:], "SignatureDoesNotMatch"),
+    ("that of the last chunk", "signature", -1, lambda it: it[:-1] + (b"1" if it[-1:] == b"0" else b"0"), "SignatureDoesNotMatch"),
+    ("a line end without CR", "line end", 0, lambda it: b"\n", "InvalidRequest"),
+    ("a line end that is none", "line end", 0, lambda it: b"xy", "InvalidRequest"),
+    ("a line end behind data that is none", "line end", 1, lambda it: b"\r\r", "InvalidRequest"),
+    ("the first byte of the data", "data", 0, flipped, "SignatureDoesNotMatch"),
+    ("the last byte of the data", "data", -1, lambda it: it[:-1] + flipped(it[-1:]), "SignatureDoesNotMatch"),
+    ("a byte less", "data", 1, lambda it: it[1:], "InvalidRequest"),
+    ("a byte behind the end", "end", 0, lambda it: it + b"x", "InvalidRequest"),
+    ("an end that is none", "end", 0, lambda it: b"\r\r", "InvalidRequest"),
+    ("no end", "end", 0, lambda it: b"", "IncompleteBody"),
+    ("half of an end", "end", 0, lambda it: it[:1], "IncompleteBody"),
+]
+BROKEN_TRAILERS = [
+    ("a bit of its value", "value", 0, lambda it: (b"B" if it[:1] == b"A" else b"A") + it[1:], "SignatureDoesNotMatch"),
+    ("its name", "name", 0, other_byte(0, b"y"), "SignatureDoesNotMatch"),
+    ("a name with a space", "name", 0, other_byte(1, b" "), "InvalidRequest"),
+    ("no colon", "colon", 0, lambda it: b"", "InvalidRequest"),
+    ("a value with a byte below the space", "value", 0, other_byte(0, b"\x01"), "InvalidRequest"),
+    ("the seal", "seal", 0, lambda it: (b"1" if it[:1] == b"0" else b"0") + it[1:], "SignatureDoesNotMatch"),
+    ("the seal's name", "seal's name", 0, other_byte(0, b"y"), "InvalidRequest"),
+]
+
+
+@group()
+def broken_chunks(check):
+    """Each class of bytes of a chunk, changed: refused by its code, and nothing is stored."""
+    chunks = [b"hello", b"world", b"again"]
+    data = b"".join(chunks)
+    trailers = [chunk_bodies.checksum("sha256", data)]
+    with Swiftd() as store, Gate(store.text, words=EXTENDED, **HOLDS) as gate:
+        gate.ask("PUT", "/photos")
+
+        def refused(title, code, text):
+            with gate.client(text) as client:
+                check(title, code, client.reply().code)
+            check("and nothing is stored", 404, gate.ask("HEAD", "/photos/k").status)
+
+        for form in chunk_bodies.FORMS:
+            given = trailers if form in TRAILED else []
+            for title, kind, which, change, code in BROKEN_CHUNKS + (BROKEN_TRAILERS if form == chunk_bodies.SIGNED_TRAILER else []):
+                asked = in_chunks("/photos/k", form, chunks, trailers=given)
+                if form == chunk_bodies.UNSIGNED:
+                    if kind in ("word", "signature"):
+                        continue
+                    # Its data aren't signed: what guards them is the checksum.
+                    code = "BadDigest" if code == "SignatureDoesNotMatch" else code
+                refused(f"{form}: {title}", code, asked.changed(kind, which, change))
+            for title, announced, code in (("one byte more", 16, "IncompleteBody"), ("one less", 14, "IncompleteBody"), ("none", "", "MissingContentLength"), ("a sign", "+15", "InvalidRequest"), ("20 digits", "0" * 18 + "15", "InvalidRequest"), ("too many", 268435457, "EntityTooLarge")):
+                refused(f"{form}: of the bytes are announced {title}", code, in_chunks("/photos/k", form, chunks, trailers=given, announced=announced).text())
+            asked = in_chunks("/photos/k", form, chunks, trailers=given)
+            whole = asked.joined()
+            for size in (0, 1, 20, len(whole) // 2, len(whole) - 1):
+                refused(f"{form}: {size} of {len(whole)} bytes", "IncompleteBody", asked.text(whole[:size]))
+            refused(f"{form}: a bucket", "NotImplemented", in_chunks("/photos", form, [], trailers=[chunk_bodies.checksum("crc32", b"")] if form in TRAILED else []).text())
+        asked = in_chunks("/photos/k", chunk_bodies.SIGNED, chunks)
+        first = next(piece for name, piece in asked.body if name == "signature")
+        refused("chunks in another order", "SignatureDoesNotMatch", in_chunks("/photos/k", chunk_bodies.SIGNED, [b"hello", b"again"]).changed("data", 1, lambda it: b"niaga"))
+        refused("the signature of the chunk before", "SignatureDoesNotMatch", asked.changed("signature", 1, lambda it: first))
+        refused("trailers that aren't named", "InvalidRequest", in_chunks("/photos/k", chunk_bodies.UNSIGNED, chunks, trailers=trailers, named=[]).text())
+        refused("a name without a trailer", "InvalidRequest", in_chunks("/photos/k", chunk_bodies.UNSIGNED, chunks, trailers=trailers, named=["x-amz-checksum-sha256", "x-amz-checksum-crc32"]).text())
+        for form in chunk_bodies.FORMS:
+            asked = in_chunks("/photos/k", form, chunks, trailers=trailers if form in TRAILED else [], owner=False)
+            refused(f"{form}: of nobody", "AccessDenied" if form == chunk_bodies.UNSIGNED else "InvalidRequest", asked.text())
+    with Swiftd() as store, Gate(store.text) as gate:
+        gate.ask("PUT", "/photos")
+        for form in chunk_bodies.FORMS:
+            with gate.client(in_chunks("/photos/k", form, chunks, trailers=trailers if form in TRAILED else []).text()) as client:
+                check(f"{form}: the strict profile", (501, "NotImplemented"), brief(client.reply()))
+
+
+@group()
+def extended_requests(check):
+    """Checksums in headers, a body that is asked for, one that is too large, conditions of a copy, and a listing of uploads."""
+    with Swiftd() as store, Gate(store.text, words=(*LEAST, "--extended", "--largest-body", "1000")) as gate:
+        gate.ask("PUT", "/photos")
+        for name in chunk_bodies.CHECKSUMS:
+            header, value = chunk_bodies.checksum(name, b"abc")
+            for title, body, given, wanted in (
+                ("right", b"abc", value, 200),
+                ("of other bytes", b"abd", value, (400, "BadDigest")),
+                ("of another size", b"abc", "AAA=", (400, "InvalidRequest")),
+                ("that isn't base64", b"abc", "?" + value[1:], (400, "InvalidRequest")),
+            ):
+                check(f"{header}: one {title}", wanted, brief(gate.ask("PUT", f"/photos/{name}", [(header, given)], body)))
+            check("what is right is stored", (200, b"abc"), both(gate.ask("GET", f"/photos/{name}")))
+            asked = in_chunks("/photos/k", chunk_bodies.UNSIGNED, [b"abc"], trailers=[(header, value)])
+            with gate.client(asked.changed("data", 0, flipped)) as client:
+                check(f"{header} in a trailer: a flipped bit", (400, "BadDigest"), brief(client.reply()))
+            check("isn't stored", 404, gate.ask("HEAD", "/photos/k").status)
+        asked = in_chunks("/photos/e", chunk_bodies.SIGNED, [b"abc", b"def"], headers=[("Expect", "100-continue")])
+        with gate.client(asked.head()) as client:
+            check("a body in chunks is asked for", 100, client.reply().status)
+            client.send(asked.joined())
+            check("and stored", 200, client.reply().status)
+        for form in chunk_bodies.FORMS:
+            trailers = [chunk_bodies.checksum("crc32", b"x" * 1001)] if form in TRAILED else []
+            with gate.client(in_chunks("/photos/l", form, [b"x" * 1001], trailers=trailers).head()) as client:
+                check(f"{form}: one byte more than the largest body", (400, "EntityTooLarge"), brief(client.reply()))
+        etag = f'"{ABC}"'
+        for name, value, wanted in (
+            ("if-match", etag, 200),
+            ("if-match", '"0"', (412, "PreconditionFailed")),
+            ("if-none-match", etag, (412, "PreconditionFailed")),
+            ("if-none-match", '"0"', 200),
+            ("if-unmodified-since", "Thu, 01 Jan 1970 00:00:00 GMT", (412, "PreconditionFailed")),
+            ("if-modified-since", "Thu, 01 Jan 1970 00:00:00 GMT", 200),
+        ):
+            check(f"a copy with {name} {value}", wanted, brief(gate.ask("PUT", "/photos/c", [("x-amz-copy-source", "/photos/crc32"), (f"x-amz-copy-source-{name}", value)])))
+        gate.ask("POST", "/photos/a%20b?uploads")
+        reply = gate.ask("GET", "/photos?uploads&delimiter=&encoding-type=url")
+        check("a listing of uploads with escaped keys", (200, ["a%20b"], ["url"]), (reply.status, text_of(b"Key", reply.body), text_of(b"EncodingType", reply.body)))
 
 
 # swiftd by itself.

@@ -1,6 +1,6 @@
 #!/usr/bin/env bash
-# What `s3gate session` takes for bodies of 16 MiB, of objects and of parts, beside `cat`, `md5sum` and `sha256sum` of the same
-# bytes in the same run; for a head of 16,384 bytes that comes byte by byte; and for a key file of 30,000 lines.
+# What `s3gate session` takes for bodies of 16 MiB, of objects and of parts, also in chunks, beside `cat`, `md5sum` and `sha256sum` of
+# the same bytes in the same run; for a head of 16,384 bytes that comes byte by byte; and for a key file of 30,000 lines.
 #
 #   bench/bodies.sh [PROGRAM] [REQUESTS]
 #
@@ -16,6 +16,8 @@ sys.dont_write_bytecode = True
 spec = importlib.util.spec_from_file_location("sign", "examples/sign.py")
 sign = importlib.util.module_from_spec(spec)
 spec.loader.exec_module(sign)
+sys.path.insert(0, "bench")
+import chunk_bodies
 
 PROGRAM = os.path.abspath(sys.argv[1] if len(sys.argv) > 1 else "crates/s3gate/out/s3gate")
 REQUESTS = int(sys.argv[2]) if len(sys.argv) > 2 else 8
@@ -25,6 +27,7 @@ BODY = random.Random(1).randbytes(SIZE)
 HASH = hashlib.sha256(BODY).hexdigest()
 DIGEST = "\r\nContent-MD5: " + base64.b64encode(hashlib.md5(BODY).digest()).decode()
 KEY = sign.first_key()
+EXTENDED = ("--extended", "--largest-body", str(2 * SIZE))
 
 
 def request(line, body=b"", payload="UNSIGNED-PAYLOAD", more=""):
@@ -32,6 +35,11 @@ def request(line, body=b"", payload="UNSIGNED-PAYLOAD", more=""):
     now = datetime.datetime.now(datetime.timezone.utc)
     head = f"{line} HTTP/1.1\r\nContent-Length: {len(body)}{more}"
     return sign.signed(head, *KEY, now, payload).encode() + b"\r\n\r\n" + body
+
+
+def in_chunks(form, size, trailers=()):
+    """The bytes of a PUT of the body in chunks of so many bytes."""
+    return chunk_bodies.Chunks(sign, "PUT", "/photos/k", form, chunk_bodies.cut(BODY, [size]), datetime.datetime.now(datetime.timezone.utc), trailers=trailers).text()
 
 
 def take_reply(pipe):
@@ -102,13 +110,13 @@ def rest(output):
         pass
 
 
-def session(pieces, wanted):
+def session(pieces, wanted, words=()):
     """The session of these requests, which must be answered with these statuses, each 200 of a GET with the body."""
 
     def read(output):
         return [take_reply(output) for _ in wanted]
 
-    run = Run([PROGRAM, "session"], all_of(pieces), read)
+    run = Run([PROGRAM, "session", *words], all_of(pieces), read)
     got = [status for status, _ in run.read]
     if run.status or got != wanted or any(body and body != BODY for status, body in run.read if status == 200):
         sys.exit(f"the session ended with status {run.status}, and answered {got}, not {wanted}")
@@ -151,6 +159,10 @@ def byte_by_byte(data):
     return write
 
 
+PLAIN, HASHED = "PUT, UNSIGNED-PAYLOAD", "PUT, its hash signed"
+SIGNED_CHUNKS, UNSIGNED_CHUNKS = "PUT in signed chunks of 64 KiB", "PUT in chunks of 1 MiB, CRC-32 behind them"
+
+
 def body_rows():
     for words in ["cat"], ["md5sum"], ["sha256sum"]:
         run = Run(words, all_of([BODY] * REQUESTS), rest, ends=True)
@@ -161,8 +173,14 @@ def body_rows():
     none, empty, one = session([], []), session([bucket], [200]), session([bucket, plain], [200, 200])
     run = session([b"PUT /photos HTTP/1.1\r\nContent-Length: %d\r\n\r\n" % SIZE + BODY] * REQUESTS, [400] * REQUESTS)
     yield "read, and answered 400", run.clock - none.clock, run.processor - none.processor, run.memory
-    for name, put in ("PUT, UNSIGNED-PAYLOAD", plain), ("PUT, with Content-MD5", digested), ("PUT, its hash signed", hashed):
+    for name, put in (PLAIN, plain), ("PUT, with Content-MD5", digested), (HASHED, hashed):
         run = session([bucket] + [put] * REQUESTS, [200] * (REQUESTS + 1))
+        yield name, run.clock - empty.clock, run.processor - empty.processor, run.memory
+    for name, put in (
+        (SIGNED_CHUNKS, in_chunks(chunk_bodies.SIGNED, 1 << 16)),
+        (UNSIGNED_CHUNKS, in_chunks(chunk_bodies.UNSIGNED, 1 << 20, [chunk_bodies.checksum("crc32", BODY)])),
+    ):
+        run = session([bucket] + [put] * REQUESTS, [200] * (REQUESTS + 1), EXTENDED)
         yield name, run.clock - empty.clock, run.processor - empty.processor, run.memory
     run = parts(bucket)
     yield "PUT of a part", run.clock - empty.clock, run.processor - empty.processor, run.memory
@@ -197,6 +215,8 @@ def main():
     md5 = next(processor for name, _, processor, _ in rows if name == "md5sum")
     for name, clock, processor, memory in rows:
         print(f"| {name} | {mib / clock:.0f} | {processor * 1000 / mib:.2f} | {memory:.0f} | {processor / md5:.2f} |")
+    took = {name: processor for name, _, processor, _ in rows}
+    print(f"\nSigned chunks take {took[SIGNED_CHUNKS] / took[HASHED]:.2f} times the processor of a hash that is signed, and those with a CRC-32 {took[UNSIGNED_CHUNKS] / took[PLAIN]:.2f} times that of UNSIGNED-PAYLOAD.")
     print("\n| session | processor s | seconds | peak MiB |\n|---|---|---|---|")
     with tempfile.TemporaryDirectory() as room:
         for name, run in other_rows(room):

@@ -5,6 +5,7 @@ It knows only what this profile says of the operations, of their calls and of th
 those of Python's hashlib. Nothing is taken from the program.
 """
 import copy
+from datetime import datetime, timezone
 from urllib.parse import quote
 
 from case_uploads import NAMESPACE, PLAIN, STARTED, compact, md5, reply, request, shown, tag
@@ -24,6 +25,7 @@ BAD_REQUEST = ("400 Bad Request", "InvalidRequest", "The request is invalid.")
 BAD_ARGUMENT = ("400 Bad Request", "InvalidArgument", "An argument is invalid.")
 BAD_RANGE = ("416 Range Not Satisfiable", "InvalidRange", "The range is not satisfiable.")
 TOO_LARGE = ("400 Bad Request", "EntityTooLarge", "The body is too large.")
+NOT_MET = ("412 Precondition Failed", "PreconditionFailed", "A precondition failed.")
 LARGE_META = ("400 Bad Request", "MetadataTooLarge", "The metadata is too large.")
 DENIED = ("403 Forbidden", "AccessDenied", "Access denied.")
 UNAVAILABLE = ("503 Service Unavailable", "ServiceUnavailable", "The store is unavailable.")
@@ -148,6 +150,29 @@ def segment_name(number, part):
     return f"{number}/{part:05}"
 
 
+def condition_headers(only):
+    """The headers of conditions on a source, by what they are behind the front that all have: tags as a text, moments as numbers."""
+    def text_of(value):
+        return value if isinstance(value, str) else datetime.fromtimestamp(value, timezone.utc).strftime("%a, %d %b %Y %H:%M:%S GMT")
+
+    return [f"x-amz-copy-source-if-{name}: {text_of(value)}".rstrip() for name, value in only.items()]
+
+
+def is_met(only, etag, moment):
+    """Whether a source with this ETag and of this moment meets the conditions (RFC 9110, section 13.2.2): If-Match, or without it
+    If-Unmodified-Since; and then If-None-Match, or without it If-Modified-Since. A tag counts without its quotes and its `W/`, and a
+    text that is no moment isn't looked at."""
+    def has(tags):
+        return tags == "*" or etag in [tag.strip(" ").removeprefix("W/").strip('"') for tag in tags.split(",")]
+
+    def moment_in(name, usual):
+        return only[name] if isinstance(only.get(name), int) else usual
+
+    wanted = has(only["match"]) if "match" in only else moment <= moment_in("unmodified-since", moment)
+    known = has(only["none-match"]) if "none-match" in only else moment <= moment_in("modified-since", moment - 1)
+    return wanted and not known
+
+
 def metadata(meta):
     """The headers that give these entries, and that tell them."""
     return [f"{'x-amz-meta' + name if name.startswith('-') else name}: {value}" for name, value in meta]
@@ -168,6 +193,7 @@ class Run:
         self.store.begin(word, number)
         self.word, self.number, self.moment = word, number, moment
         self.is_settled, self.turn, self.requests, self.pieces, self.files = False, 0, [], [], []
+        self.most = MOST_PART
 
     # What a run is told as.
 
@@ -373,14 +399,17 @@ class Run:
 
     # Copies.
 
-    def copy(self, to, of, *headers, replace=None, acl=None, source=None, bucket=HOME, from_bucket=HOME):
-        """`replace` has the type and the metadata that are put in place of the source's, and `source` another spelling of it."""
+    def copy(self, to, of, *headers, replace=None, acl=None, source=None, only={}, bucket=HOME, from_bucket=HOME):
+        """`replace` has the type and the metadata that are put in place of the source's, `source` another spelling of it, and `only`
+        the conditions on it."""
         def plan(draw):
             found = self.need_bucket(bucket)
             if acl and (acl == "public-read") != (found.readers == "Everybody"):
                 raise Refused(*NOT_BUILT)
             self.need_bucket(from_bucket)
             file = self.need_object(from_bucket, of)
+            if not is_met(only, file.etag, file.moment):
+                raise Refused(*NOT_MET)
             if replace is None and (bucket, to) == (from_bucket, of):
                 raise Refused(*BAD_REQUEST)
             kind, meta = replace or (file.kind, file.meta)
@@ -392,6 +421,7 @@ class Run:
             kind, meta = replace
             given += ["x-amz-metadata-directive: REPLACE", *([f"Content-Type: {kind}"] if kind != PLAIN else []), *metadata(meta)]
         given += [f"x-amz-acl: {acl}"] if acl else []
+        given += condition_headers(only)
         self.ask(request("PUT", path_of(bucket, to), *given, *headers, body=""), path_of(bucket, to), plan)
 
     def plain_copy(self, file, kind, meta, _bucket, _draw):
@@ -414,17 +444,19 @@ class Run:
             at += size
         return File(kind, file.body, file.etag, self.moment, number, meta, segments)
 
-    def copy_part(self, key, number, part, of, *headers, first=None, last=None, source=None, bucket=HOME, from_bucket=HOME):
-        """Of the bytes from the first to the last, or all."""
+    def copy_part(self, key, number, part, of, *headers, first=None, last=None, source=None, only={}, bucket=HOME, from_bucket=HOME):
+        """Of the bytes from the first to the last, or all, where the source meets the conditions."""
         def plan(_draw):
             self.need_bucket(bucket)
             self.need_upload(bucket, key, number)
             self.need_bucket(from_bucket)
             file = self.need_object(from_bucket, of)
+            if not is_met(only, file.etag, file.moment):
+                raise Refused(*NOT_MET)
             if last is not None and last >= len(file.body):
                 raise Refused(*BAD_RANGE)
             body = file.body if last is None else file.body[first : last + 1]
-            if len(body) > MOST_PART:
+            if len(body) > self.most:
                 raise Refused(*TOO_LARGE)
             if body:
                 self.store.call()
@@ -434,6 +466,7 @@ class Run:
 
         given = [f"x-amz-copy-source: {source or path_of(from_bucket, of)}"]
         given += [f"x-amz-copy-source-range: bytes={first}-{last}"] if last is not None else []
+        given += condition_headers(only)
         target = f"{path_of(bucket, key)}?partNumber={part}&uploadId={number}"
         self.ask(request("PUT", target, *given, *headers, body=""), path_of(bucket, key), plan)
 

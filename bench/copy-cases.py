@@ -2,7 +2,8 @@
 """Writes cases of copies: what is answered, how many calls of the store each request makes, and what is left.
 
     bench/copy-cases.py > crates/cases/data/copies.txt
-    bench/copy-cases.py lost > crates/cases/data/copies-lost.txt    the losses of each call
+    bench/copy-cases.py lost > crates/cases/data/copies-lost.txt            the losses of each call
+    bench/copy-cases.py extended > crates/cases/data/copies-extended.txt    conditions on sources, which the extended profile has
 
 The replies and the accounts come from a small model (bench/case_copies.py), which knows only what this profile says of copies, of
 uploads and of settling (docs/PROFILE.md), by Amazon S3 API Reference, "CopyObject" and "UploadPartCopy". Nothing is taken from the
@@ -15,6 +16,7 @@ from case_signing import load_signing
 from case_uploads import CLOCK, STARTED, TELL, Writer, md5, request
 
 LEAST = "words session --least-part 1"
+EXTENDED = "words session --extended"
 OTHER = "music"
 OPEN = "public"
 TEXT = "text/plain; charset=utf-8"
@@ -413,6 +415,16 @@ def parts_refused(to):
     run.copy_part("u", number, 1, "k", first=0, last=999999999999999999)
     run.copy_part("u", number, 1, "empty", first=0, last=0)
     to.told("copies of parts that are refused", run, "nomodel")
+    to.note("No part that is copied has more bytes than `--largest-body` says, of the whole source or of a range of it; a copy of an object may.")
+    run = to.run()
+    run.most = 9
+    run.copy_part("u", number, 1, "v.bin")
+    run.copy_part("u", number, 1, "v.bin", first=0, last=8)
+    run.copy_part("u", number, 1, "v.bin", first=0, last=9)
+    run.copy_part("u", number, 1, "v.bin", first=0, last=10)
+    run.copy_part("u", number, 2, "k")
+    run.copy("w.bin", "v.bin")
+    to.told("copies of parts of more bytes than the largest body", run, "words session --largest-body 9", "nomodel")
 
 
 # ---- losses
@@ -505,13 +517,94 @@ def part_sweeps(to):
     to.swept("a copy past the end as a part", run, probe, "200 400 200 200 200", "200 400 200 200 200")
 
 
+# ---- conditions on a source
+
+
+MET = [
+    {"match": '"{etag}"'}, {"match": "{etag}"}, {"match": 'W/"{etag}"'}, {"match": "*"}, {"match": '"other", "{etag}"'}, {"none-match": '"other"'},
+    {"none-match": ""}, {"modified-since": -1}, {"unmodified-since": 0}, {"unmodified-since": 1}, {"modified-since": "yesterday"},
+    {"unmodified-since": ""}, {"match": '"{etag}"', "unmodified-since": -1}, {"none-match": '"other"', "modified-since": 0},
+    {"match": '"{etag}"', "none-match": '"other"', "modified-since": 1, "unmodified-since": -1},
+]
+UNMET = [
+    {"match": '"other"'}, {"match": ""}, {"match": '"{etag}-1"'}, {"none-match": '"{etag}"'}, {"none-match": 'a, W/"{etag}"'}, {"none-match": "*"},
+    {"modified-since": 0}, {"modified-since": 1}, {"unmodified-since": -1}, {"match": '"other"', "unmodified-since": 1},
+    {"none-match": '"{etag}"', "modified-since": -1}, {"match": '"{etag}"', "none-match": '"{etag}"'}, {"match": '"{etag}"', "modified-since": 0},
+    {"none-match": '"other"', "unmodified-since": -1},
+]
+
+
+def of_source(to, key, only):
+    """Conditions by the ETag of a source, and by moments as they differ from its own."""
+    file = to.store.containers[HOME].files[key]
+    return {name: value.format(etag=file.etag) if isinstance(value, str) else file.moment + value for name, value in only.items()}
+
+
+def conditions(to):
+    to.note(
+        "A source that meets the conditions is copied by the calls of any copy. One that doesn't is refused after HEAD of it, also where a",
+        "GET of it would be told that it is known. Conditions are read as those of a GET: RFC 9110, section 13.2.2.",
+    )
+    to.begin(an_object, other_buckets)
+    run = to.run()
+    for only in MET:
+        run.copy("c", "k", only=of_source(to, "k", only))
+    run.get("c")
+    to.told("copies of a source that meets the conditions", run, EXTENDED)
+    run = to.run()
+    for only in UNMET:
+        run.copy("c", "k", only=of_source(to, "k", only))
+    run.get("c")
+    to.told("copies of a source that doesn't meet them", run, EXTENDED)
+    run = to.run()
+    held, met = of_source(to, "k", UNMET[0]), of_source(to, "k", MET[0])
+    run.copy("c", "k", bucket="nothing", only=held)
+    run.copy("c", "k", acl="public-read", only=held)
+    run.copy("c", "k", from_bucket="nothing", only=held)
+    run.copy("c", "missing", only=held)
+    run.copy("c", "missing", only={"match": "*"})
+    run.copy("c", "missing", only={"none-match": "*"})
+    run.copy("k", "k", only=held)
+    run.copy("k", "k", only=met)
+    run.copy("k", "k", replace=(TEXT, []), only=held)
+    run.copy("k", "k", replace=(TEXT, []), only=met)
+    run.copy("k", "k", replace=(TEXT, []), only={"modified-since": to.store.containers[HOME].files["k"].moment})
+    to.told("what is refused before the conditions, and what behind them", run, EXTENDED)
+
+
+def conditions_of_parts(to):
+    to.note("The same of a source that was completed from parts, whose ETag says how many they were, and of the copy of a part.")
+    to.begin(other_buckets, joined("v.bin", TWO, "text/plain"), uploaded("u", []), an_object)
+    number = next(name for name, it in to.store.containers[f"{HOME}+uploads"].files.items() if it.is_open)
+    run = to.run()
+    for only in MET[:2] + UNMET[:4]:
+        run.copy("c", "v.bin", only=of_source(to, "v.bin", only))
+    to.told("copies of an object of parts, under conditions", run, EXTENDED, "nomodel")
+    run = to.run()
+    for at, only in enumerate(MET):
+        run.copy_part("u", number, at + 1, "k", only=of_source(to, "k", only))
+    for only in UNMET:
+        run.copy_part("u", number, 100, "k", only=of_source(to, "k", only))
+    held, met = of_source(to, "k", UNMET[0]), of_source(to, "k", MET[0])
+    run.copy_part("u", number, 100, "k", bucket="nothing", only=held)
+    run.copy_part("u", "f" * 32, 100, "k", only=held)
+    run.copy_part("u", number, 100, "k", from_bucket="nothing", only=held)
+    run.copy_part("u", number, 100, "missing", only=held)
+    run.copy_part("u", number, 100, "k", first=0, last=5, only=held)
+    run.copy_part("u", number, 100, "k", first=0, last=5, only=met)
+    run.copy_part("u", number, 100, "k", first=0, last=4, only=met)
+    to.told("copies of parts under conditions", run, EXTENDED, "nomodel")
+
+
 PLAIN_GROUPS = [plain, onto, refusals, unasked, odd_keys, contents, of_parts, parts_over, filled_parts, free_ids, parts, parts_refused]
 LOST_GROUPS = [losses, sweeps, part_sweeps]
+EXTENDED_GROUPS = [conditions, conditions_of_parts]
 
 
 def main(words):
-    if words not in ([], ["lost"]):
+    if words not in ([], ["lost"], ["extended"]):
         sys.exit(__doc__)
+    groups = {"": PLAIN_GROUPS, "lost": LOST_GROUPS, "extended": EXTENDED_GROUPS}[" ".join(words)]
     to = Cases()
     to.note(
         "Copies, by bench/copy-cases.py: a small model of its own, from what this profile says of them and of their calls",
@@ -519,7 +612,7 @@ def main(words):
         "operation of a run.",
     )
     to.lines.append("")
-    for made in LOST_GROUPS if words else PLAIN_GROUPS:
+    for made in groups:
         made(to)
     print("\n".join(load_signing().signed(to.lines)).rstrip("\n"))
 

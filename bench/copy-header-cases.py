@@ -5,9 +5,10 @@
 
 What each request means comes from the reader below, which knows only what Amazon S3 API Reference ("CopyObject", "UploadPartCopy")
 and this profile say of it (docs/PROFILE.md): Python's urllib decodes sources, its codecs find out what is no UTF-8, its re reads
-ranges, and its hashlib makes digests. Nothing is taken from the program.
+ranges and tags, its datetime reads dates, and its hashlib makes digests. Nothing is taken from the program.
 """
 import base64
+import datetime
 import hashlib
 import random
 import re
@@ -18,6 +19,10 @@ OWN = ["cache-control", "content-disposition", "content-encoding", "content-lang
 META = b"x-amz-meta-"
 PLAIN = b"binary/octet-stream"
 REFUSED = [b"x-amz-tagging", b"x-amz-website-redirect-location", b"x-amz-security-token"]
+CONDITION = b"x-amz-copy-source-if-"
+CONDITIONS = [b"match", b"none-match", b"modified-since", b"unmodified-since"]
+# the three forms of a date (RFC 9110, section 5.6.7), of which the second has a year of two digits
+DATES = ["%a, %d %b %Y %H:%M:%S GMT", "%A, %d-%b-%y %H:%M:%S GMT", "%a %b %d %H:%M:%S %Y"]
 
 
 # ---- the reader
@@ -87,11 +92,40 @@ def size_of(entries):
     return sum(len(name.removeprefix(b"-")) + len(value) for name, value in entries)
 
 
-class Asked:
-    """A request: who asks, its method and its target, headers in their order, and its body."""
+def tags_of(value):
+    """What an ETag is compared with: none, any, or these. A tag stands between commas, with quotes or without them, and the `W/` of a
+    weak one doesn't count (RFC 9110, section 8.8.3)."""
+    if value is None:
+        return "Absent"
+    if value == b"*":
+        return "Any"
+    tags = [re.sub(rb'^"(.*)"$', rb"\1", tag.strip(b" ").removeprefix(b"W/"), flags=re.S) for tag in value.split(b",")]
+    return f"Listed([{', '.join(shown(tag) for tag in tags)}])"
 
-    def __init__(self, *headers, caller="owner", method="PUT", target="/photos/k", body=""):
+
+def date_of(value):
+    """A date in seconds since 1970, where the text is one."""
+    for form in DATES:
+        try:
+            date = datetime.datetime.strptime((value or b"").decode("latin-1"), form)
+        except ValueError:
+            continue
+        if date.strftime(form) == value.decode():
+            return f"Some({int((date - datetime.datetime(1970, 1, 1)).total_seconds())})"
+    return "None"
+
+
+def conditions_of(fields):
+    match, none, since, until = (fields.get(CONDITION + it) for it in CONDITIONS)
+    return f"Conditions {{ matched: {tags_of(match)}, unmatched: {tags_of(none)}, modified: {date_of(since)}, unmodified: {date_of(until)} }}"
+
+
+class Asked:
+    """A request: who asks, its method and its target, headers in their order, and its body; and whether the profile is extended."""
+
+    def __init__(self, *headers, caller="owner", method="PUT", target="/photos/k", body="", extended=False):
         self.caller, self.method, self.target, self.headers, self.body = caller, method, target, headers, body
+        self.extended = extended
 
     def fields(self):
         fields = {}
@@ -101,7 +135,7 @@ class Asked:
         return fields
 
     def lines(self):
-        lines = [f"meaning {self.caller} {self.method} {self.target}"]
+        lines = [f"{'extended-' if self.extended else ''}meaning {self.caller} {self.method} {self.target}"]
         if self.method in ("PUT", "POST"):
             lines.append(f"> content-length: {len(self.body)}")
         lines += [f"> {name}: {value}".rstrip() for name, value in self.headers]
@@ -130,12 +164,17 @@ class Asked:
     def need_built(self, fields, is_copy):
         if not is_copy and b"x-amz-copy-source" in fields or any(name in fields for name in REFUSED):
             raise Refused("NotImplemented")
-        if is_copy and (b"?" in fields[b"x-amz-copy-source"] or any(name.startswith(b"x-amz-copy-source-if-") for name in fields)):
+        if self.method not in ("GET", "HEAD") and (b"if-match" in fields or b"if-none-match" in fields):
+            raise Refused("NotImplemented")
+        if is_copy and (b"?" in fields[b"x-amz-copy-source"] or any(map(self.is_unbuilt_condition, fields))):
             raise Refused("NotImplemented")
         if fields.get(b"x-amz-acl", b"private") not in (b"private", b"public-read"):
             raise Refused("NotImplemented")
         if fields.get(b"x-amz-storage-class", b"STANDARD") != b"STANDARD":
             raise Refused("InvalidStorageClass")
+
+    def is_unbuilt_condition(self, name):
+        return name.startswith(CONDITION) and not (self.extended and name.removeprefix(CONDITION) in CONDITIONS)
 
     def need_digest(self, fields):
         given = fields.get(b"content-md5")
@@ -159,9 +198,10 @@ class Asked:
             raise Refused("MetadataTooLarge")
         source = f"from_bucket: {shown(from_bucket)}, from_key: {shown(from_key)}"
         if is_part:
-            return f'CopyPart {{ bucket: "photos", key: "k", id: "0a", number: 7, {source}, range: {f"Some({span})" if span else None} }}'
+            of_range = f"range: {f'Some({span})' if span else None}, conditions: {conditions_of(fields)}"
+            return f'CopyPart {{ bucket: "photos", key: "k", id: "0a", number: 7, {source}, {of_range} }}'
         told = f"Some(Replaced {{ {taken(*replaced)} }})" if replaced else "None"
-        return f'CopyObject {{ bucket: "photos", key: "k", acl: {acl_of(fields)}, {source}, replaced: {told} }}'
+        return f'CopyObject {{ bucket: "photos", key: "k", acl: {acl_of(fields)}, {source}, replaced: {told}, conditions: {conditions_of(fields)} }}'
 
     def put(self, fields, is_part):
         body = shown(self.body.encode())
@@ -194,6 +234,10 @@ def span(value):
     return "x-amz-copy-source-range", value
 
 
+def condition(name, value):
+    return f"x-amz-copy-source-if-{name}", value
+
+
 def part(*headers, **more):
     return Asked(*headers, target=f"/photos/k?{PART}", **more)
 
@@ -214,6 +258,12 @@ RANGES = [
     "bytes=0-18446744073709551616", "octets=0-1", "bytes=\\d9\\a0-1", "bytes=0-1/2",
 ]
 DIRECTIVES = ["COPY", "REPLACE", "replace", "copy", "Replace", "", "COPY,COPY", "COPY ,REPLACE", "REPLACED", "MOVE"]
+TAGS = ["a", '"a"', 'W/"a"', "W/a", "*", '"*"', "", '""', '"', "a,b", '"a", W/"b" ,c', ",", "a b", " a", '"a""', '"5d41402abc4b2a76b9719d911017c592-3"', "\\c3\\bc", "*,a"]
+MOMENTS = [
+    "Fri, 24 May 2013 00:00:00 GMT", "Thu, 23 May 2013 00:00:00 GMT", "Friday, 24-May-13 00:00:01 GMT", "Fri May 24 00:00:01 2013", "", "0", "1369353600",
+    "2013-05-24T00:00:00Z", "Fri, 24 May 2013 00:00:00 UTC", "Fri, 24 May 2013 24:00:00 GMT", "Sat, 24 May 2013 00:00:00", "Fri, 31 Feb 2013 00:00:00 GMT",
+    "fri, 24 may 2013 00:00:00 gmt",
+]
 MANY = [(f"x-amz-meta-{number}", "1") for number in range(65)]
 EMPTY_MD5, OTHER_MD5 = (base64.b64encode(hashlib.md5(it).digest()).decode() for it in (b"", b"x"))
 REPLACED = [("content-type", "text/plain; charset=utf-8"), ("x-amz-meta-Colour", "red"), ("Cache-Control", "no-cache"), ("x-amz-meta-colour", "blue")]
@@ -253,6 +303,7 @@ def groups():
         Asked(source("/photos/l"), ("x-amz-tagging-directive", "REPLACE"), ("x-amz-object-ownership", "a"), ("range", "bytes=0-1")),
         Asked(source("/photos/l"), ("if-modified-since", "0")),
     ]
+    yield "With the extended profile four conditions are read, of both copies, as those of a GET; any other stays refused.", extended_conditions()
     yield "A copy has no body.", [
         Asked(source("/photos/l"), body="x"), part(source("/photos/l"), body="x"), part(source("/photos/l"), span("bytes=0-1"), body="hello"),
         Asked(source("/photos/l"), directive("REPLACE"), body="x"), Asked(body="x"), part(body="x"), Asked(source("/photos/l"), ("content-md5", EMPTY_MD5)),
@@ -271,6 +322,36 @@ def groups():
         part(source("/photos/l"), span("bytes=0-"), caller="anonymous"), Asked(source("/photos/l?"), caller="anonymous"),
     ]
     yield "By chance, from a generator with a fixed seed.", by_chance(random.Random(18), 150)
+
+
+def extended_conditions():
+    """Tags and dates of many forms, one condition and several, and what the extended profile refuses."""
+    source_of_all = source("/photos/l")
+    for name in ("match", "none-match"):
+        for value in TAGS:
+            yield Asked(source_of_all, condition(name, value), extended=True)
+    for name in ("modified-since", "unmodified-since"):
+        for value in MOMENTS:
+            yield Asked(source_of_all, condition(name, value), extended=True)
+    given = [condition(name, value) for name, value in (("match", '"a"'), ("none-match", "b"), ("modified-since", MOMENTS[0]), ("unmodified-since", MOMENTS[1]))]
+    yield Asked(source_of_all, *given, extended=True)
+    yield part(source_of_all, *given, extended=True)
+    yield part(source_of_all, span("bytes=0-1"), given[3], given[0], extended=True)
+    yield Asked(source_of_all, directive("REPLACE"), *REPLACED, given[1], extended=True)
+    yield Asked(source_of_all, ("X-Amz-Copy-Source-If-Match", "a"), ("x-amz-copy-source-if-match", "b"), extended=True)
+    yield Asked(source_of_all, ("if-match", "a"), ("if-modified-since", MOMENTS[0]), extended=True)
+    yield Asked(source_of_all, ("if-unmodified-since", MOMENTS[0]), ("if-modified-since", MOMENTS[0]), extended=True)
+    for name in ("x", "", "range", "matched", "match-"):
+        yield Asked(source_of_all, condition(name, "a"), extended=True)
+        yield part(source_of_all, given[0], condition(name, "a"), extended=True)
+    yield Asked(source("/photos/l?versionId=null"), given[0], extended=True)
+    yield Asked(source("photos"), given[0], extended=True)
+    yield Asked(source_of_all, given[0], body="x", extended=True)
+    yield Asked(source_of_all, given[0], caller="anonymous", extended=True)
+    yield Asked(source_of_all, extended=True)
+    yield part(source_of_all, extended=True)
+    yield Asked(given[0], extended=True)
+    yield part(given[1], extended=True)
 
 
 def neighbours():

@@ -13,8 +13,8 @@ import random
 import re
 
 MOMENT_LIMIT = 253402300800
-MOST_PARTS = 1000
-MOST_BODY = 16777216
+MOST_PARTS = 10000
+MOST_BODY = 1073741824
 KEPT = ["cache-control", "content-disposition", "content-encoding", "content-language", "expires"]
 HEX32 = re.compile(r"[0-9a-f]{32}")
 OBJECT_ETAG = re.compile(r"[0-9a-f]{32}(-([1-9]\d{0,3}|10000))?", re.ASCII)
@@ -255,7 +255,7 @@ METAS = [
     None,
 ]
 ETAGS = [HELLO, HELLO + "-1", HELLO + "-10000", HELLO + "-0", HELLO + "-01", HELLO + "-10001", HELLO + "-", HELLO[:-1], HELLO + "0", HELLO.upper(), f'"{HELLO}"', "", 1, None]
-NUMBERS = [1, 1000, 0, 1001, -1, 2**32 + 1, 2**64, 1.0, "1", None]
+NUMBERS = [1, 1000, 0, 10001, -1, 2**32 + 1, 2**64, 1.0, "1", None]
 PART_ETAGS = [HELLO, HELLO + "-1", HELLO[:-1], HELLO + "0", HELLO.upper(), "g" * 32, "", 1]
 SIZES = [0, MOST_BODY, MOST_BODY + 1, -1, 1.0, "5", None]
 VERSIONS = [0, 2, 3, 10, 2**32, 2**64 - 1, 2**64, -1, 1.0, 1.5, "1", True, None, []]
@@ -266,7 +266,7 @@ IDS = ["0" * 32, "f" * 32, "F" * 32, "0" * 31, "0" * 33, "", "-", 10, None]
 def lists_of(widen):
     """Lists of parts, each made of a number and an ETag by `widen`."""
     one = widen(1, HELLO)
-    lists = [[one], [widen(2, HELLO), one], [one, one], [widen(number, WORLD) for number in range(1, 11)], [], [one] * 1001]
+    lists = [[one], [widen(2, HELLO), one], [one, one], [widen(number, WORLD) for number in range(1, 11)], [], [one] * 10001]
     lists += [[widen(number, HELLO)] for number in NUMBERS] + [[widen(1, etag)] for etag in PART_ETAGS]
     return lists + [[one[:-1]], [[*one, 5]], [[]], [HELLO], [{"number": 1}], [one, None], "", None, {}]
 

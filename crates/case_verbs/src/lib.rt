@@ -13,7 +13,7 @@ mod swift_verbs;
 mod talk;
 mod verbs;
 
-pub use settings::{USUAL_LEAST_PART, USUAL_REGION, settings_of_region};
+pub use settings::{USUAL_LARGEST_BODY, USUAL_LEAST_PART, USUAL_REGION, settings_of_region};
 pub use shown::is_shown_reply;
 pub use swift_verbs::wire::place_of_store;
 pub use talk::{Talk, opens_connection};

@@ -1,17 +1,18 @@
 //! What requests mean.
 use crate::s3_verbs::caller_of_word;
 use crate::s3_verbs_message::message_of_case;
-use crate::settings::{USUAL_LEAST_PART, USUAL_REGION, settings_of_region};
+use crate::settings::{USUAL_LARGEST_BODY, USUAL_LEAST_PART, USUAL_REGION, settings_of_region};
 use case_text::{Told, cut_text, tell_copy_of_value, tell_owned_value};
 use gate_base::{Caller, drop};
 use http_wire::Message;
-use s3_machine::Code;
+use s3_machine::{Code, Settings};
 use s3_names::Target;
 use s3_requests::{Meant, meaning};
 use std::alloc::Global;
 
 /// `CALLER METHOD TARGET` tells what a request means. The lines `>` are its headers, and behind an empty one its body; where
-/// nothing stands behind CALLER, they are the whole request. By `code` an operation is told by that word alone.
+/// nothing stands behind CALLER, they are the whole request. By `code` an operation is told by that word alone. By
+/// `extended-meaning` and `extended-code` it is what the extended profile says.
 pub(crate) fn tell_meaning(alloc: Global, verb: &str, text: &str, given: &[u8], told: &mut Told) {
     let (word, line) = cut_text(text, ' ');
     let caller = caller_of_word(word, told);
@@ -42,16 +43,27 @@ fn tell_meaning_with_target(
     target: &Target,
     told: &mut Told,
 ) {
-    if let Some(settings) = settings_of_region(alloc, USUAL_REGION, USUAL_LEAST_PART, told) {
+    if let Some(settings) = settings_of_verb(alloc, verb, told) {
         let meant = meaning(alloc, message, target, &caller, &settings);
         tell_meant(verb, &meant, told);
         drop(meant);
     }
 }
 
+fn settings_of_verb(alloc: Global, verb: &str, told: &mut Told) -> Option<Settings> {
+    settings_of_region(
+        alloc,
+        USUAL_REGION,
+        USUAL_LEAST_PART,
+        USUAL_LARGEST_BODY,
+        verb.starts_with("extended-"),
+        told,
+    )
+}
+
 fn tell_meant(verb: &str, meant: &Meant, told: &mut Told) {
     match meant {
-        Meant::Op(_) if verb == "code" => told.say("operation\n"),
+        Meant::Op(_) if verb.ends_with("code") => told.say("operation\n"),
         _ => tell_copy_of_value(meant, told),
     }
 }

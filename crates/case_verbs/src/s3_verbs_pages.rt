@@ -344,6 +344,7 @@ fn uploads_reply_of_fields(alloc: Global, fields: &[Pair], told: &mut Told) -> R
         key_marker: bytes_in_verb_field(alloc, fields, b"key-marker", told),
         id_marker: bytes_in_verb_field(alloc, fields, b"id-marker", told),
         max: small_number_in_verb_field(fields, b"max", told),
+        url: is_verb_field_yes(fields, b"url"),
         items: items_of_fields(alloc, fields, told),
         truncated: is_verb_field_yes(fields, b"truncated"),
     }

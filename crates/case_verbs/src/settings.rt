@@ -10,16 +10,23 @@ pub const USUAL_REGION: &[u8] = b"us-east-1";
 /// The least size of a part that isn't the last, where the words give none: 5 MiB.
 pub const USUAL_LEAST_PART: u64 = 5_242_880;
 
-/// A copy of the settings of a region.
+/// The most bytes of a body, where the words give none: 16 MiB.
+pub const USUAL_LARGEST_BODY: u64 = 16_777_216;
+
+/// A copy of the settings of a region, of these sizes, extended or not.
 pub fn settings_of_region(
     alloc: Global,
     region: &[u8],
     least_part: u64,
+    largest_body: u64,
+    extended: bool,
     told: &mut Told,
 ) -> Option<Settings> {
     let settings = Settings {
         region: copy_of_bytes(alloc, region, told),
         least_part,
+        largest_body,
+        extended,
     };
     told.keep_made(settings.copy())
 }

@@ -4,20 +4,21 @@ ghost use Rattle.gate_base.specs.MemLine.{is_open_of};
 
 use case_text::{Fault, LARGE, Told, line_of_one_connection, tell_value};
 use gate_base::{Counted, Line, List, MemLine, NoCount, drop};
-use http_wire::{Got, Message, ReadFault, Reader};
+use http_wire::{BODY_LIMIT, Got, Message, ReadFault, Reader};
 use std::alloc::Global;
 
-/// A connection that is open, its reader, and how many of the pieces that were written are told.
+/// A connection that is open, its reader, the most bytes that a body has, and how many of the pieces that were written are told.
 #[derive(Drop)]
 pub struct Talk {
     line: MemLine,
     reader: Reader,
+    limit: u64,
     told: usize,
     ghost open: { IsTrue (is_open_of line) },
 }
 
 impl Talk {
-    /// Begins to talk over a line of one connection.
+    /// Begins to talk over a line of one connection, by the usual limit of a body.
     pub fn new(alloc: Global, mut line: MemLine, told: &mut Told) -> Option<Talk> {
         if !opens_connection::<NoCount>(&mut line) {
             told.note_fault(Fault::Unread("no connection"));
@@ -27,6 +28,7 @@ impl Talk {
         Some(Talk {
             line,
             reader,
+            limit: BODY_LIMIT,
             told: 0,
         })
     }
@@ -37,9 +39,15 @@ impl Talk {
         Talk::new(alloc, line, told)
     }
 
+    /// A body has at most so many bytes from now on.
+    pub fn limit_bodies(&mut self, limit: u64) {
+        self.limit = limit;
+    }
+
     /// The next answer of the reader.
     pub fn next_front(&mut self) -> Result<Got, ReadFault> {
-        self.reader.next_request(&mut self.line, &NoCount)
+        self.reader
+            .next_request(self.limit, &mut self.line, &NoCount)
     }
 
     /// The next message; none where none comes next.

@@ -10,7 +10,9 @@ use std::alloc::Global;
 /// Tells what a verb gives: by the text behind the verb, and by the bytes of its lines `>`.
 pub fn tell_verb(alloc: Global, verb: &str, text: &str, given: &[u8], told: &mut Told) {
     match verb {
-        "meaning" | "code" => tell_meaning(alloc, verb, text, given, told),
+        "meaning" | "code" | "extended-meaning" | "extended-code" => {
+            tell_meaning(alloc, verb, text, given, told)
+        }
         "page-of" => tell_page_of_reply(alloc, text, given, told),
         "messages" => fronts::tell_messages(alloc, text, given, false, told),
         "lengths" => fronts::tell_messages(alloc, text, given, true, told),

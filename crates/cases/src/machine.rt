@@ -7,11 +7,13 @@ use case_text::{
     Fault, Given, Told, begins_reply, given_connections, given_keys, given_moments,
     given_text_behind, has_failing_call, has_given_line, reply_of_pieces, tell_bytes_by_lines,
 };
-use case_verbs::{Talk, USUAL_LEAST_PART, USUAL_REGION, is_shown_reply, settings_of_region};
+use case_verbs::{
+    Talk, USUAL_LARGEST_BODY, USUAL_LEAST_PART, USUAL_REGION, is_shown_reply, settings_of_region,
+};
 use gate_base::{Bytes, Caller, Copying, MOMENT_LIMIT, Memory, Piece, drop};
 use gateway::{Service, print_reply};
 use http_wire::Message;
-use s3_machine::{Label, Op, Reply};
+use s3_machine::{Label, Op, Reply, Settings};
 use s3_names::Target;
 use s3_native::Native;
 use s3_requests::{Meant, meaning};
@@ -64,12 +66,7 @@ pub(crate) fn machine_after_setup(
 
 /// A machine without a bucket.
 fn machine_without_bucket(alloc: Global, given: Given<'_>, told: &mut Told) -> Option<Machine> {
-    let settings = settings_of_region(
-        alloc,
-        region_of_words(given),
-        least_part_of_words(given),
-        told,
-    )?;
+    let settings = settings_of_words(alloc, given, told)?;
     Some(Machine {
         alloc,
         native: Native::new(alloc, settings),
@@ -99,6 +96,7 @@ impl Machine {
         for bytes in connections.as_slice() {
             number = number.saturating_add(1);
             if let Some(mut talk) = Talk::open_over_bytes(self.alloc, bytes.as_slice(), told) {
+                talk.limit_bodies(service.settings.largest_body);
                 let moments = moments.as_slice();
                 self.answer_connection(service, moments, &mut talk, number, pieces, told);
             }
@@ -314,6 +312,33 @@ fn least_part_of_words(given: Given<'_>) -> u64 {
     }
 }
 
+/// The most bytes of a body by the words, or the usual ones, 16 MiB.
+fn largest_body_of_words(given: Given<'_>) -> u64 {
+    match option_of_words(given, " --largest-body ") {
+        Some(value) => option_number_or_zero(value),
+        None => USUAL_LARGEST_BODY,
+    }
+}
+
+/// Whether the words have the flag that asks for more than the strict profile.
+fn is_extended_by_words(given: Given<'_>) -> bool {
+    match given_text_behind(given, "words") {
+        Some(words) => words.contains(" --extended"),
+        None => false,
+    }
+}
+
+fn settings_of_words(alloc: Global, given: Given<'_>, told: &mut Told) -> Option<Settings> {
+    settings_of_region(
+        alloc,
+        region_of_words(given),
+        least_part_of_words(given),
+        largest_body_of_words(given),
+        is_extended_by_words(given),
+        told,
+    )
+}
+
 fn option_number_or_zero(text: &str) -> u64 {
     match text.parse::<u64>() {
         Ok(number) => number,
@@ -323,12 +348,7 @@ fn option_number_or_zero(text: &str) -> u64 {
 
 pub(crate) fn service_of_run(alloc: Global, given: Given<'_>, told: &mut Told) -> Option<Service> {
     let keys = keys_of_run(alloc, given, told)?;
-    let settings = settings_of_region(
-        alloc,
-        region_of_words(given),
-        least_part_of_words(given),
-        told,
-    )?;
+    let settings = settings_of_words(alloc, given, told)?;
     Some(Service { settings, keys })
 }
 
