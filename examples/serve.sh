@@ -85,7 +85,7 @@ SWIFTD_LISTEN="$store" SWIFTD_LOG=off crates/swiftd/out/swiftd --token example -
 jobs+=($!)
 await $! "$((port + 1))"
 S3GATE_KEYS=examples/keys.txt S3GATE_LISTEN="127.0.0.1:$port" S3GATE_STORE="$store" S3GATE_ACCOUNT=example S3GATE_TOKEN=example \
-    crates/s3gate/out/s3gate serve --connections 1000000000 &
+    S3GATE_AHEAD=256 crates/s3gate/out/s3gate serve --connections 1000000000 --extended --largest-body 268435456 &
 jobs+=($!)
 await $! "$port"
 ask() {
