@@ -127,9 +127,15 @@ class Gate:
         return connect(self.place, self.process)
 
     def end(self):
+        """The status. Where memory ran out as the connection was taken up, it was no turn: another one is."""
         try:
-            return self.process.wait(20)
+            return self.process.wait(2)
         except subprocess.TimeoutExpired:
+            pass
+        try:
+            self.connect().close()
+            return self.process.wait(20)
+        except (Gone, OSError, subprocess.TimeoutExpired):
             self.process.kill()
             self.process.wait()
             return None
@@ -159,17 +165,20 @@ def ask(connection, method, target, body=b""):
     data = b""
     try:
         connection.sendall(signed(method, target, body))
-        while True:
-            head, found, rest = data.partition(b"\r\n\r\n")
-            size = re.search(rb"(?mi)^content-length: (\d+)", head)
-            if found and (method == "HEAD" or len(rest) >= int(size[1] if size else 0)):
-                return data
+        while not is_whole(data, method):
             more = connection.recv(65536)
             if not more:
-                return data
+                break
             data += more
     except OSError:
-        return data
+        pass
+    return data
+
+
+def is_whole(reply, method):
+    head, found, rest = reply.partition(b"\r\n\r\n")
+    size = re.search(rb"(?mi)^content-length: (\d+)", head)
+    return bool(found) and (method == "HEAD" or len(rest) >= int(size[1] if size else 0))
 
 
 def plain(reply):
@@ -213,7 +222,7 @@ def served(store, environment, each=None):
             asked = next(turns)
             while True:
                 replies.append(ask(it, *asked))
-                if replies[-1].endswith(MEMORY) or not replies[-1].startswith(b"HTTP/1.1 2"):
+                if not is_whole(replies[-1], asked[0]) or replies[-1].endswith(MEMORY) or not replies[-1].startswith(b"HTTP/1.1 2"):
                     break
                 asked = turns.send(replies[-1])
     except (Gone, StopIteration, TypeError):
