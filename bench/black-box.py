@@ -2501,6 +2501,45 @@ def each_call_of_a_sweep_is_lost(check):
                         check("and leaves the same", True, store.account == done)
 
 
+class Killing:
+    """What is done to a call: the program that made it is killed, before the call was done or after it."""
+
+    def __init__(self, is_done):
+        self.is_done, self.process, self.begun = is_done, None, threading.Event()
+
+    def begin(self, store, *words):
+        usual = {"S3GATE_STORE": store, "S3GATE_ACCOUNT": ACCOUNT, "S3GATE_TOKEN": TOKEN, "S3GATE_LOG": "off"}
+        self.process = subprocess.Popen([S3GATE, *words], env=usual, stdin=subprocess.DEVNULL, stdout=subprocess.DEVNULL, stderr=subprocess.DEVNULL)
+        self.begun.set()
+        return self.process.wait(PATIENCE)
+
+    def __call__(self, store, call, _stream):
+        self.begun.wait(PATIENCE)
+        if self.is_done:
+            store.apply(call)
+        self.process.kill()
+        return False
+
+
+@group()
+def each_call_of_a_sweep_is_the_last(check):
+    """The program is killed at each call in turn; what was removed stays removed, and the next sweep removes the rest."""
+    with Store(account={}) as store:
+        leave_over(check, "sweep", store)
+        begun = copy.deepcopy(store.account)
+        store.begin({})
+        check("sweep is done", (0, removed(7, 1, 2)), night(store.text, "sweep"))
+        calls, done = len(store.calls), copy.deepcopy(store.account)
+        for is_done in (False, True):
+            for number in range(1, calls + 1):
+                store.account, killing = copy.deepcopy(begun), Killing(is_done)
+                store.begin({number: killing})
+                check(f"sweep is killed at call {number}, {'behind' if is_done else 'before'} it", (-signal.SIGKILL, number), (killing.begin(store.text, "sweep"), len(store.calls)))
+                store.begin({})
+                check("the next sweep is done", 0, night(store.text, "sweep")[0])
+                check("and leaves the same", True, store.account == done)
+
+
 def deletion(*keys, quiet=False):
     """The body of a DeleteObjects."""
     objects = "".join(f"<Object><Key>{html.escape(it)}</Key></Object>" for it in keys)
