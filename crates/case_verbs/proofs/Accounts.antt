@@ -5,10 +5,11 @@ use Rattle.std.proofs.Common.{refl, ap, ◌∙◌}
 use Rattle.std.proofs.lemmas.Bool.{lt-ltb}
 use Rattle.gate_base.specs.Named.{ascends, placed}
 use Rattle.gate_base.proofs.lemmas.Named.{ascends_placed, all_placed, both, first_of_two, second_of_two}
-use Rattle.swift_calls.specs.Account.{size_of, is_sized_object, IsOrdered, IsSized}
+use Rattle.swift_calls.specs.Account.{size_of}
+use Rattle.planned_swift.specs.Accounts.{is_sized_object, IsOrdered, IsSized}
 use Rattle.swift_calls.specs.declared.account.Stored.{Stored}
-use Rattle.swift_calls.specs.declared.account.Container.{Container}
-use Rattle.swift_calls.specs.declared.account.Account.{Account}
+use Rattle.planned_swift.specs.declared.account.Container.{Container}
+use Rattle.planned_swift.specs.declared.account.Account.{Account}
 
 -- one container more, with one object
 pub one_more_ordered : (account : Account) (x : Container) (s : Stored) → x.objects ≡ [] ++ s ∷ [] → IsOrdered account → IsOrdered (record { containers = placed (λ c. c.name) x account.containers })

@@ -13,11 +13,10 @@ use Rattle.gate_base.specs.Causes.{RisesIf, Rose}
 use Rattle.swift_calls.specs.Account.{SwiftAccount}
 use Rattle.swift_calls.specs.Step.{Fit, swift_step}
 use Rattle.swift_calls.specs.History.{History, Extends}
-use Rattle.swift_calls.specs.Replay.{loses_none, replay_outcome_at}
+use Rattle.swift_calls.specs.Outcomes.{loses_none, outcome_of}
 use Rattle.swift_calls.specs.declared.calls.SwiftRequest.{SwiftRequest}
-use Rattle.swift_calls.specs.declared.memory.Outcome.{Outcome}
-use Rattle.swift_calls.specs.declared.memory.Outcome.TheVariants.{Answered, LostAfter}
-use Rattle.swift_calls.proofs.lemmas.Outcomes.{all_answered}
+use Rattle.swift_calls.specs.declared.outcome.Outcome.{Outcome}
+use Rattle.swift_calls.specs.declared.outcome.Outcome.TheVariants.{Answered, LostAfter}
 use Rattle.swift_replies.specs.Answers.{SpellsAnswer}
 use Rattle.swift_requests.specs.Calls.{SpellsRequest}
 use Rattle.swift_requests.specs.Link.{Exchanges}
@@ -26,6 +25,12 @@ use Rattle.swift_requests.specs.declared.link.LinkFault.{LinkFault}
 use Rattle.swift_requests.specs.declared.link.LinkFault.TheVariants.{Failed as NoLink, Memory as NoMemory}
 use Rattle.memory_swift.specs.Handing.{Hands}
 use Rattle.memory_swift.specs.Log.{Serves, state_at, lost_after, history_by, is_sure_by}
+
+-- where the lists are empty each exchange is answered
+all_answered : (before after : List ℕ) (number : ℕ) → IsTrue (loses_none before after 0) → outcome_of before after 0 number ≡ Answered
+all_answered [] [] number none = refl
+all_answered [] (x ∷ after) number none = absurd (true≢false (sym none))
+all_answered (x ∷ before) after number none = absurd (true≢false (sym none))
 
 -- a vector has fewer than 2^63 items
 pub vec_small : (v : Vec ℕ) → length v.items < 2 ^ 63
@@ -45,10 +50,10 @@ pub sure_noted : {T : Type 0} (own : T → Bool) (old new later : T) (before aft
 sure_noted own old new later before after before' after' keep stays = sure_kept _ _ _ _ _ _ (λ s. ap own stays ∙ keep s)
 
 -- no exchange is lost
-pub never_lost : (own : Bool) (before after : List ℕ) (number : ℕ) (outcome : Outcome) (lost : Bool) → outcome ≡ replay_outcome_at before after 0 number → lost ≡ true
+pub never_lost : (own : Bool) (before after : List ℕ) (number : ℕ) (outcome : Outcome) (lost : Bool) → outcome ≡ outcome_of before after 0 number → lost ≡ true
     → (outcome ≡ Answered → IsTrue own → lost ≡ false) → IsTrue (is_sure_by own before after) → ⊥
 never_lost own before after number outcome lost is is_lost none sure =
-    let p = and_parts _ _ sure in true≢false (sym is_lost ∙ none (is ∙ all_answered before after 0 number p.1) p.0)
+    let p = and_parts _ _ sure in true≢false (sym is_lost ∙ none (is ∙ all_answered before after number p.1) p.0)
 
 -- ---- the states
 

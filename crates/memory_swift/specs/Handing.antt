@@ -9,8 +9,8 @@ use Rattle.http_wire.specs.declared.message.Message.{Message}
 use Rattle.swift_calls.specs.Account.{SwiftAccount}
 use Rattle.swift_calls.specs.Step.{swift_step}
 use Rattle.swift_calls.specs.declared.calls.SwiftRequest.{SwiftRequest}
-use Rattle.swift_calls.specs.declared.memory.Outcome.{Outcome}
-use Rattle.swift_calls.specs.declared.memory.Outcome.TheVariants.{Answered, LostBefore, LostAfter}
+use Rattle.swift_calls.specs.declared.outcome.Outcome.{Outcome}
+use Rattle.swift_calls.specs.declared.outcome.Outcome.TheVariants.{Answered, LostBefore, LostAfter}
 use Rattle.swift_replies.specs.Answers.{SpellsAnswer}
 
 -- the one message that the bytes are, from the first to the last; or they are none

@@ -4,11 +4,11 @@ use Rattle.std.specs.Prelude.{◌≡◌, ℕ, zero, suc, Bool, ◌&&◌, List, [
 use Rattle.gate_base.specs.Causes.{Rose}
 use Rattle.swift_calls.specs.Account.{SwiftAccount}
 use Rattle.swift_calls.specs.History.{History, present}
-use Rattle.swift_calls.specs.Replay.{loses_none, replay_outcome_at}
+use Rattle.swift_calls.specs.Outcomes.{loses_none, outcome_of}
 use Rattle.swift_calls.specs.Step.{Fit, swift_step}
 use Rattle.swift_calls.specs.declared.calls.SwiftRequest.{SwiftRequest}
-use Rattle.swift_calls.specs.declared.memory.Outcome.{Outcome}
-use Rattle.swift_calls.specs.declared.memory.Outcome.TheVariants.{Answered, LostBefore, LostAfter}
+use Rattle.swift_calls.specs.declared.outcome.Outcome.{Outcome}
+use Rattle.swift_calls.specs.declared.outcome.Outcome.TheVariants.{Answered, LostBefore, LostAfter}
 use Rattle.swift_requests.specs.Calls.{SpellsRequest}
 use Rattle.swift_requests.specs.declared.link.LinkFault.{LinkFault}
 use Rattle.swift_requests.specs.declared.link.LinkFault.TheVariants.{Failed}
@@ -58,7 +58,7 @@ pub record Losses : Type 0 where
 
 -- how the exchange of a number goes
 abbrev pub planned : Losses → ℕ → Outcome
-planned losses number = replay_outcome_at losses.before losses.after 0 number
+planned losses number = outcome_of losses.before losses.after 0 number
 
 -- an exchange went as was planned: it was answered only where no message was to be lost; it failed where none was to be only
 -- with a higher count of faults of the shelf; and a request that was to be lost left the shelf as it was

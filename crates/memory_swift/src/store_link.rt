@@ -6,7 +6,7 @@ ghost use Rattle.std.proofs.lemmas.List.{take-take};
 ghost use Rattle.std.proofs.lemmas.List.Sums.{sum_by-take-le};
 ghost use Rattle.gate_base.specs.Causes.{Rose};
 ghost use Rattle.swift_calls.specs.History.{budget};
-ghost use Rattle.swift_calls.specs.Replay.{replay_outcome_at};
+ghost use Rattle.swift_calls.specs.Outcomes.{outcome_of};
 ghost use Rattle.swift_calls.specs.Step.{Fit};
 ghost use Rattle.swift_calls.specs.declared.calls.SwiftRequest.{SwiftRequest};
 ghost use Rattle.swift_requests.specs.Calls.{SpellsRequest};
@@ -19,7 +19,7 @@ use crate::Store;
 use gate_base::{Bytes, Counted, List, Memory};
 use std::alloc::Global;
 use std::snapshot::Snapshot;
-use swift_calls::Outcome;
+use swift_calls::{Outcome, outcome_at};
 use swift_requests::{Link, LinkFault};
 use swift_store::Shelf;
 
@@ -64,15 +64,9 @@ impl<S: Shelf> StoreLink<S> {
 
     /// How the exchange of a number goes.
     fn outcome(&self, number: u64) -> Outcome
-        ensures { result ≡ replay_outcome_at self.now.before self.now.after 0 number }
+        ensures { result ≡ outcome_of self.now.before self.now.after 0 number }
     {
-        if self.before.as_slice().contains(&number) {
-            Outcome::LostBefore
-        } else if self.after.as_slice().contains(&number) {
-            Outcome::LostAfter
-        } else {
-            Outcome::Answered
-        }
+        outcome_at(self.before.as_slice(), self.after.as_slice(), 0, number)
     }
 
     /// Writes down what an exchange found, and whether it was lost.

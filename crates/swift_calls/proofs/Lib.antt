@@ -1,10 +1,3 @@
-pub mod ByName
 pub mod Fitting
-pub mod Joining
-pub mod Manifests
-pub mod Paging
 pub mod Reading
-pub mod Replaying
-pub mod Serving
-pub mod Telling
 pub mod lemmas

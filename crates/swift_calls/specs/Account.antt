@@ -1,15 +1,11 @@
 -- An account as maps by names: its containers, and the objects of each. Source: Object Storage API v1.
-use Rattle.std.specs.Prelude.{ℕ, ◌^◌, Bool, ◌&&◌, List, length, map, sum_by, nat_lt, IsTrue, Option, None, Some}
-use Rattle.std.specs.List.{list_all}
+use Rattle.std.specs.Prelude.{ℕ, List, length, sum_by, Option, None, Some}
 use Rattle.std.specs.FinMap.{empty, get, insert, remove}
 use Rattle.gate_base.specs.Maps.{Names, adjust}
-use Rattle.gate_base.specs.Named.{map_of, ascends}
 use Rattle.swift_calls.specs.declared.account.ReadList.{ReadList}
 use Rattle.swift_calls.specs.declared.account.Content.{Content}
 use Rattle.swift_calls.specs.declared.account.Content.TheVariants.{Plain, Segments}
 use Rattle.swift_calls.specs.declared.account.Stored.{Stored}
-use Rattle.swift_calls.specs.declared.account.Container.{Container}
-use Rattle.swift_calls.specs.declared.account.Account.{Account}
 
 -- an object, but for its name
 pub record SwiftObject : Type 0 where
@@ -63,36 +59,11 @@ with_head readers created folder = record folder { readers = readers; created = 
 abbrev pub new_folder : ReadList → Option ℕ → SwiftContainer
 new_folder readers created = record { readers = readers; created = created; files = empty }
 
--- ---- the account as it is declared, by lists
-
+-- an object as it is declared, but for its name
 abbrev pub file_of : Stored → SwiftObject
 file_of s = record { content_type = s.content_type; meta = s.meta; content = s.content }
-
-abbrev pub folder_of : Container → SwiftContainer
-folder_of c = record { readers = c.readers; created = c.created; files = map_of (λ s. s.name) file_of c.objects }
-
--- an account as maps; of two things with one name the first counts
-abbrev pub tree_of : Account → SwiftAccount
-tree_of account = map_of (λ c. c.name) folder_of account.containers
 
 -- the size of an object in bytes: its own, or the sum of its segments'
 abbrev pub size_of : Content → ℕ
 size_of (Plain bytes) = length bytes
 size_of (Segments segments) = sum_by (λ s. s.size) segments
-
-abbrev pub is_ordered : Account → Bool
-is_ordered account = ascends (map (λ c. c.name) account.containers) && list_all (λ c. ascends (map (λ s. s.name) c.objects)) account.containers
-
--- names ascend strictly in byte order, those of the containers and those of each container's objects
-abbrev pub IsOrdered : Account → Type 0
-IsOrdered account = IsTrue (is_ordered account)
-
-abbrev pub is_sized_object : Stored → Bool
-is_sized_object s = nat_lt (size_of s.content) (2 ^ 63)
-
-abbrev pub is_sized : Account → Bool
-is_sized account = list_all (λ c. list_all is_sized_object c.objects) account.containers
-
--- the size of each object is below 2^63
-abbrev pub IsSized : Account → Type 0
-IsSized account = IsTrue (is_sized account)

@@ -3,7 +3,5 @@ pub mod Bodies
 pub mod History
 pub mod Laws
 pub mod Limits
-pub mod Lists
-pub mod MemSwift
-pub mod Replay
+pub mod Outcomes
 pub mod Step

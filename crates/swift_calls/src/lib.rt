@@ -1,5 +1,5 @@
 //! Calls of a Swift store: the account that a store keeps, what each call of Object Storage API v1 answers and
-//! leaves, the trait of a store that can fail, and a store in memory.
+//! leaves, and the trait of a store that can fail.
 #![tactic(auto)]
 
 mod account;
@@ -7,17 +7,11 @@ mod calls;
 mod fits;
 mod heads;
 mod laws;
-mod listable;
-mod listing;
-mod memory;
-mod objects;
-mod replay;
-mod segments;
-mod serve;
+mod outcome;
 
-pub use account::{Account, Container, Content, ReadList, Stored};
+pub use account::{Content, ReadList, Stored};
 pub use calls::{Swift, SwiftFault, SwiftReply, SwiftRequest};
 pub use fits::is_fit;
 pub use heads::{NameItem, StoredHead};
 pub use laws::{law_reads_keep, law_reads_leave};
-pub use memory::{MemSwift, Outcome};
+pub use outcome::{Outcome, outcome_at};

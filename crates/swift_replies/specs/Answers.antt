@@ -57,6 +57,7 @@ use Rattle.swift_calls.specs.declared.calls.SwiftRequest.TheVariants.{
   DeleteObject,
 }
 use Rattle.swift_calls.specs.declared.calls.SwiftReply.{SwiftReply}
+use Rattle.swift_statuses.specs.Statuses.{missing, gone, put_reply, delete_reply}
 use Rattle.swift_calls.specs.declared.calls.SwiftReply.TheVariants.{
   Made,
   There,
@@ -142,18 +143,6 @@ unfoldable pub segments_in : Form → List ℕ → Option (List Segment)
 segments_in form text = option_and_then segments_within (entries_of form text)
 
 -- ---- the reply of each status
-
-abbrev pub missing : ℕ → Option SwiftReply
-missing status = if status == 404 then Some NotFound else None
-
-abbrev pub gone : ℕ → Option SwiftReply
-gone status = if status == 204 then Some Gone else missing status
-
-abbrev pub put_reply : ℕ → Option SwiftReply
-put_reply status = if status == 201 then Some Made else (if status == 202 then Some There else None)
-
-abbrev pub delete_reply : ℕ → Option SwiftReply
-delete_reply status = if status == 409 then Some NotEmpty else gone status
 
 abbrev pub containers_reply : ℕ → List ℕ → Option SwiftReply
 containers_reply status body =

@@ -2,7 +2,8 @@
 ghost use Rattle.std.specs.Prelude.{◌≡◌, ◌≤◌, ◌-◌, ◌+◌, min, drop, length, option_map, IfOk, Some};
 ghost use Rattle.http_answers.specs.Head.{Shows};
 ghost use Rattle.http_answers.specs.declared.head.Front.TheVariants.{Whole};
-ghost use Rattle.swift_replies.specs.Answers.{ReadsAnswer, asks_head, reply_body_by_size, reply_of, missing, gone, put_reply, delete_reply, containers_reply, names_reply, head_container_reply, readers_reply, put_object_reply, stored_reply, put_manifest_reply, head_object_reply, head_reply, is_part, sized_bytes_reply, part_reply, beyond, bytes_reply};
+ghost use Rattle.swift_statuses.specs.Statuses.{missing, gone, put_reply, delete_reply};
+ghost use Rattle.swift_replies.specs.Answers.{ReadsAnswer, asks_head, reply_body_by_size, reply_of, containers_reply, names_reply, head_container_reply, readers_reply, put_object_reply, stored_reply, put_manifest_reply, head_object_reply, head_reply, is_part, sized_bytes_reply, part_reply, beyond, bytes_reply};
 
 use crate::WireFault;
 use crate::fields::container_created_in;
@@ -14,6 +15,7 @@ use gate_base::{Bytes, List, Memory, Pair};
 use http_answers::{Front, Head, answer_content_length, expected, find_head};
 use std::alloc::Global;
 use swift_calls::{StoredHead, SwiftReply, SwiftRequest};
+use swift_statuses::{delete_reply, gone, missing, put_reply};
 
 /// The reply that the bytes of one whole answer spell to a call (Object Storage API v1). Further headers, and further
 /// fields of JSON, count for nothing. `NotAnAnswer` exactly where they spell none; a body is copied once.
@@ -104,49 +106,6 @@ pub(crate) fn reply_of(
         }
         SwiftRequest::GetManifest { .. } => get_manifest_reply(alloc, status, headers, body),
         SwiftRequest::DeleteObject { .. } => Ok(gone(status)),
-    }
-}
-
-pub(crate) fn missing(status: u16) -> Option<SwiftReply>
-    ensures { result ≡ missing status }
-{
-    if status == 404 {
-        Some(SwiftReply::NotFound)
-    } else {
-        None
-    }
-}
-
-fn gone(status: u16) -> Option<SwiftReply>
-    ensures { result ≡ gone status }
-{
-    if status == 204 {
-        Some(SwiftReply::Gone)
-    } else {
-        missing(status)
-    }
-}
-
-fn put_reply(status: u16) -> Option<SwiftReply>
-    ensures { result ≡ put_reply status }
-{
-    if status == 201 {
-        return Some(SwiftReply::Made);
-    }
-    if status == 202 {
-        Some(SwiftReply::There)
-    } else {
-        None
-    }
-}
-
-fn delete_reply(status: u16) -> Option<SwiftReply>
-    ensures { result ≡ delete_reply status }
-{
-    if status == 409 {
-        Some(SwiftReply::NotEmpty)
-    } else {
-        gone(status)
     }
 }
 

@@ -4,12 +4,12 @@ ghost use Rattle.swift_replies.specs.Answers.{segments_in, manifest_by, get_mani
 ghost use Rattle.slo_manifest.specs.declared.manifest.Form.TheVariants.{Got};
 ghost use Rattle.swift_calls.specs.declared.calls.SwiftReply.TheVariants.{Manifest};
 
-use crate::answers::missing;
 use crate::values::reply_segments_flag_in;
 use gate_base::{List, Memory, Pair};
 use slo_manifest::{Form, ManifestFault, Segment, read};
 use std::alloc::Global;
 use swift_calls::SwiftReply;
+use swift_statuses::missing;
 
 /// The segments that a text lists, in the form; none where it is no such list of segments, or has more than one
 /// manifest lists.

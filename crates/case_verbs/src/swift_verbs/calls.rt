@@ -11,8 +11,9 @@ use case_text::{
 };
 use gate_base::{Counted, List, drop};
 use http_wire::Message;
+use planned_swift::MemSwift;
 use std::alloc::Global;
-use swift_calls::{MemSwift, Swift, SwiftFault, SwiftReply, SwiftRequest, is_fit};
+use swift_calls::{Swift, SwiftFault, SwiftReply, SwiftRequest, is_fit};
 use swift_replies::{WireFault, write_answer};
 use swift_requests::{Place, read_call};
 

@@ -1,6 +1,7 @@
 //! The account that a store begins with.
 ghost use Rattle.std.specs.Prelude.{◌<◌, ◌^◌, IfOk, IsTrue};
-ghost use Rattle.swift_calls.specs.Account.{size_of, IsOrdered, IsSized};
+ghost use Rattle.swift_calls.specs.Account.{size_of};
+ghost use Rattle.planned_swift.specs.Accounts.{IsOrdered, IsSized};
 ghost use Rattle.swift_calls.specs.declared.account.Content.TheVariants.{Segments};
 ghost use Rattle.swift_requests.specs.Place.{IsPlace};
 
@@ -8,9 +9,10 @@ use crate::swift_verbs::wire::read_next_call;
 use crate::talk::Talk;
 use case_text::{Fault, Told};
 use gate_base::{Bytes, List, Memory, drop};
+use planned_swift::{Account, Container, MemSwift};
 use slo_manifest::{Form, Segment, read};
 use std::alloc::Global;
-use swift_calls::{Account, Container, Content, MemSwift, ReadList, Stored, SwiftRequest};
+use swift_calls::{Content, ReadList, Stored, SwiftRequest};
 use swift_requests::Place;
 
 /// An account in the order of its names, with objects that aren't too large.

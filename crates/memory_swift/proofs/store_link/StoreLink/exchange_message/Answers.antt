@@ -1,5 +1,5 @@
 use Rattle.std.proofs.Common.{◌<◌, ◌^◌, ◌+◌, List, length, refl, ap, subst, ◌∙◌}
-use Rattle.swift_calls.specs.Replay.{replay_outcome_at}
+use Rattle.swift_calls.specs.Outcomes.{outcome_of}
 use Rattle.memory_swift.specs.declared.store.Store.{Store}
 use Rattle.memory_swift.specs.declared.store_link.Entry.{Entry}
 use Rattle.memory_swift.proofs.Logged.{wanted_by, lost_by, answered_by, vec_small, sure_kept, sure_noted, never_lost, noted_untold}
@@ -35,5 +35,5 @@ returns-then-lost-clause-untold g c = λ lost failed o.
     let small = subst (λ t. length t < 2 ^ 63) c.answer.view_is (vec_small c.answer.inside.items) in
     noted_untold {T = Store g.row.S.Denot g.S.Shelf} (λ s. (g.S.Shelf.model s.shelf).account) (λ s. (g.S.Shelf.model s.shelf).faults)
     c.args.self.now.store.place c.args.request.now c.args.self.now.store c.hand_or_lose_message.new.store c.note.new.self.store _ _ c.note.ensures.store
-    (c.outcome-outcome.ensures ∙ ap (λ (l : List (Entry g.row.S.Denot g.S.Shelf)). replay_outcome_at c.args.self.now.before c.args.self.now.after 0 (length l + 1)) (c.as_slice.ensures.value ∙ c.reserve.ensures.items))
+    (c.outcome-outcome.ensures ∙ ap (λ (l : List (Entry g.row.S.Denot g.S.Shelf)). outcome_of c.args.self.now.before c.args.self.now.after 0 (length l + 1)) (c.as_slice.ensures.value ∙ c.reserve.ensures.items))
     (λ is. c.in_ok-lost.ensures.untold is c.new-answer.ensures small o) lost

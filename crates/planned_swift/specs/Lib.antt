@@ -1,0 +1,4 @@
+pub mod Accounts
+pub mod Lists
+pub mod MemSwift
+pub mod Replay

@@ -1,6 +1,0 @@
-use Rattle.std.proofs.Common.{◌^◌}
-use Rattle.swift_calls.proofs.Manifests.{Leaves}
-use Rattle.swift_calls.proofs.listable.are_small.Given as goal
-
-abbrev pub invariant-loop-segment : goal.invariant-loop-segment
-invariant-loop-segment l = Leaves (2 ^ 63) l.segments l.segment-index l.left

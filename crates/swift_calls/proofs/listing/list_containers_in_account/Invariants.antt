@@ -1,8 +1,0 @@
-use Rattle.std.proofs.Common.{[]}
-use Rattle.swift_calls.specs.Step.{is_listed}
-use Rattle.swift_calls.specs.Lists.{name_of}
-use Rattle.swift_calls.proofs.Paging.{Paged}
-use Rattle.swift_calls.proofs.listing.list_containers_in_account.Given as goal
-
-abbrev pub invariant-loop-container : goal.invariant-loop-container
-invariant-loop-container l = Paged name_of (λ c. is_listed [] l.marker c.name) l.limit l.containers l.container-index l.names

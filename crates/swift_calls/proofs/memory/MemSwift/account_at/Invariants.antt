@@ -1,6 +1,0 @@
-use Rattle.std.proofs.Common.{◌≡◌, take}
-use Rattle.swift_calls.specs.Replay.{replayed}
-use Rattle.swift_calls.proofs.memory.MemSwift.account_at.Given as goal
-
-abbrev pub invariant-loop-entry : goal.invariant-loop-entry
-invariant-loop-entry l = l.account ≡ replayed l.self.first (take l.entry-index l.entry-items)

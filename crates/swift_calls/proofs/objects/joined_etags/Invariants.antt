@@ -1,6 +1,0 @@
-use Rattle.std.proofs.Common.{◌≡◌, ◌++◌, drop}
-use Rattle.swift_calls.specs.Bodies.{joined_etags}
-use Rattle.swift_calls.proofs.objects.joined_etags.Given as goal
-
-abbrev pub invariant-loop-segment : goal.invariant-loop-segment
-invariant-loop-segment l = joined_etags l.segments ≡ l.text ++ joined_etags (drop l.segment-index l.segments)
