@@ -1,5 +1,5 @@
 //! A message whose body comes in chunks, opened in its place.
-ghost use Rattle.std.specs.Prelude.{◌≡◌, Ok, Err, IfOk, IfErr};
+ghost use Rattle.std.specs.Prelude.{◌≡◌, Ok, Err, IfErr};
 ghost use Rattle.gate_base.specs.declared.caller.Caller.TheVariants.{Owner as owner, Anonymous as anonymous};
 ghost use Rattle.chunked.specs.Forms.{is_signed};
 ghost use Rattle.chunked.specs.Reading.{decoded_of};
@@ -13,7 +13,7 @@ use crate::announced::announced_length;
 use crate::headers::decoded_headers;
 use crate::refused::{refused_by, refused_by_chunks};
 use chunked::{ChunkedForm, Decoded, decode, is_signed};
-use gate_base::{Bytes, Caller, Memory};
+use gate_base::{Bytes, Caller};
 use http_wire::Message;
 use s3_machine::Code;
 use s3_names::Target;
@@ -123,20 +123,11 @@ fn open_chunked_body(
     ensures proper { IfErr result IsProperMeant }
     ensures keeps { KeepsFront message.entry.now message.exit.now }
 {
-    match body_vec(alloc, mem::replace(&mut message.body, Bytes::new(alloc))) {
-        Ok(body) => match decode(alloc, form, seal, count, body) {
-            Ok(decoded) => put_decoded_data(alloc, caller, decoded, message),
-            Err(fault) => Err(refused_by_chunks(fault)),
-        },
-        Err(_) => Err(Meant::Memory),
+    let body = mem::replace(&mut message.body, Bytes::new(alloc));
+    match decode(alloc, form, seal, count, body.into_vec()) {
+        Ok(decoded) => put_decoded_data(alloc, caller, decoded, message),
+        Err(fault) => Err(refused_by_chunks(fault)),
     }
-}
-
-/// The vector that held a body.
-fn body_vec(alloc: Global, body: Bytes) -> Result<Vec<u8>, Memory>
-    ensures { IfOk result (λ vec. vec.items ≡ body) }
-{
-    Ok(Vec::from_slice(alloc, body.as_slice())?)
 }
 
 /// Puts into the message what its body says.

@@ -56,6 +56,13 @@ impl Bytes {
         Bytes { items }
     }
 
+    /// The vector that held the text. It takes no memory.
+    pub fn into_vec(self) -> Vec<u8>
+        ensures { result.items ≡ self }
+    {
+        self.items
+    }
+
     /// Adds a byte at the end. Where memory runs out, the text is as before.
     pub fn push(&mut self, byte: u8) -> Result<(), Memory>
         ensures ok { OnOk result (self.new ≡ self.old ++ byte ∷ []) }

@@ -1,9 +1,5 @@
-pub mod Entries
 pub mod ProperCopies
 pub mod ProperReads
-pub mod Ranging
-pub mod Sources
-pub mod Tags
+pub mod Strict
 pub mod Texts
-pub mod Tokens
 pub mod lemmas

@@ -15,10 +15,11 @@ use Rattle.s3_machine.specs.declared.reading.Range.{Range}
 use Rattle.s3_machine.specs.declared.reading.Range.TheVariants.{FromTo, From, Last}
 use Rattle.s3_machine.specs.Limits.{is_content_type, is_proper_meta}
 use Rattle.s3_machine.specs.Step.{IsPlace, IsProperRange, IsProperCopyRange, IsProperReplaced}
-use Rattle.s3_requests.specs.declared.copies.Source.{Source}
+use Rattle.request_fields.specs.declared.copies.Source.{Source}
 use Rattle.s3_requests.specs.declared.rows.Row.{Row}
-use Rattle.s3_requests.specs.Ranges.{range_of}
-use Rattle.s3_requests.specs.Copies.{without_slash, place_in, place_decoded, place_named, copy_source_text, from_to, copied_range, has_bad_directive, has_bad_range, source_at, source_of, no_source}
+use Rattle.request_fields.specs.Ranges.{range_of}
+use Rattle.request_fields.specs.Copies.{without_slash, place_in, place_decoded, place_named, copy_source_text, from_to, copied_range, has_bad_directive, source_at}
+use Rattle.s3_requests.specs.Copies.{has_bad_range, source_of, no_source}
 use Rattle.s3_requests.proofs.ProperReads.{of_proper}
 
 abbrev Named : List ℕ × List ℕ → Type 0

@@ -19,11 +19,10 @@ use Rattle.s3_machine.specs.Limits.{is_listing_text, most_items, range_limit}
 use Rattle.s3_machine.specs.Step.{IsProperAsked, IsProperRange, IsProperUploads}
 use Rattle.s3_machine.specs.Uploads.{greatest_part, IsPartNumber}
 use Rattle.text_forms.specs.Numbers.{is_number, number_of}
-use Rattle.s3_requests.specs.Ranges.{is_dash, place_of, between, range_by, range_behind, range_of, given_range}
-use Rattle.s3_requests.specs.Query.{text_at}
-use Rattle.s3_requests.specs.Rows.{is_asked}
-use Rattle.s3_requests.specs.Uploads.{of_part, part_of, given_part_number}
-use Rattle.s3_requests.specs.Listings.{most_by, capped, count_of, listing_text, token_of, given_token, has_long_text, first_asked, second_asked}
+use Rattle.request_fields.specs.Ranges.{is_dash, place_of, between, range_by, range_behind, range_of, given_range}
+use Rattle.request_fields.specs.Query.{is_asked, text_at}
+use Rattle.request_fields.specs.Uploads.{of_part, part_of, given_part_number}
+use Rattle.request_fields.specs.Listings.{most_by, capped, count_of, listing_text, token_of, given_token, has_long_text, first_asked, second_asked}
 use Rattle.text_forms.proofs.lemmas.Decimals.{digits_model}
 
 -- ---- ranges

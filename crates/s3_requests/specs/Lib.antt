@@ -1,14 +1,10 @@
-pub mod Conditions
 pub mod Content
 pub mod Copies
 pub mod Deletes
-pub mod Headers
 pub mod Laws
-pub mod Listings
 pub mod Meaning
 pub mod Proper
 pub mod Query
-pub mod Ranges
 pub mod Rows
 pub mod Taken
 pub mod Uploads

@@ -26,16 +26,20 @@ use Rattle.s3_requests.specs.declared.rows.Row.TheVariants.{GetBucketAcl, ListOb
 use Rattle.s3_requests.specs.declared.rows.Row.TheVariants.{DeleteObject, GetObjectAcl, ListMultipartUploads, CreateMultipartUpload, UploadPart}
 use Rattle.s3_requests.specs.declared.rows.Row.TheVariants.{ListParts, AbortMultipartUpload, CompleteMultipartUpload, DeleteObjects, CopyObject, UploadPartCopy}
 use Rattle.s3_requests.specs.Rows.{shape_of, is_method, level_of, is_same_level, row_for}
-use Rattle.s3_requests.specs.Query.{has_unknown_name, has_foreign_name, has_name_twice}
-use Rattle.s3_requests.specs.Headers.{has_unsupported, is_chunked, is_conditional_write, given_acl, has_other_acl, lacks_acl, has_other_class}
-use Rattle.s3_requests.specs.Conditions.{given_conditions}
-use Rattle.s3_requests.specs.Ranges.{given_range}
-use Rattle.s3_requests.specs.Listings.{has_bad_word, has_long_text, has_bad_token, first_asked, second_asked}
-use Rattle.s3_requests.specs.Uploads.{has_bad_number, given_upload, given_part_number, uploads_asked, parts_asked, has_bad_list, given_list}
+use Rattle.request_fields.specs.Query.{has_name_twice}
+use Rattle.request_fields.specs.Headers.{has_unsupported, is_chunked, is_conditional_write, given_acl, has_other_acl, has_other_class}
+use Rattle.request_fields.specs.Conditions.{given_conditions}
+use Rattle.request_fields.specs.Ranges.{given_range}
+use Rattle.request_fields.specs.Listings.{has_bad_word, has_long_text, has_bad_token, first_asked, second_asked}
+use Rattle.request_fields.specs.Uploads.{has_bad_number, given_upload, given_part_number}
+use Rattle.request_fields.specs.Copies.{names_source}
+use Rattle.request_fields.specs.Content.{has_bad_digest, is_other_body, has_bad_entry}
+use Rattle.s3_requests.specs.Query.{has_unknown_name, has_foreign_name}
+use Rattle.s3_requests.specs.Uploads.{uploads_asked, parts_asked, has_bad_list, given_list}
 use Rattle.s3_requests.specs.Deletes.{has_bad_deletes, given_deletes, deletes_asked}
-use Rattle.s3_requests.specs.Copies.{names_source, copying, has_unsupported_source, has_bad_source, has_body_of_copy, given_source, part_copy_asked}
+use Rattle.s3_requests.specs.Copies.{copying, has_unsupported_source, has_bad_source, has_body_of_copy, given_source, part_copy_asked}
 use Rattle.s3_requests.specs.Taken.{given, copy_asked}
-use Rattle.s3_requests.specs.Content.{has_bad_digest, is_other_body, taken_type, taken_meta, has_bad_entry, asks_with_long_body, has_bad_location, has_other_location}
+use Rattle.s3_requests.specs.Content.{taken_type, taken_meta, lacks_acl, asks_with_long_body, has_bad_location, has_other_location}
 
 -- a reason to refuse, and whether it holds
 pub record Reason : Type 0 where

@@ -1,9 +1,10 @@
 -- The table of requests: which method, at which level of a target, with which names in the query asks for which
 -- operation. Source: Amazon S3 API Reference, "Actions"; that other names are refused is this profile.
-use Rattle.std.specs.Prelude.{ℕ, Bool, true, false, not, ◌&&◌, ◌||◌, ◌==◌, if◌then◌else◌, List, [], ◌∷◌, length, map, filter, find, codes, bytes_eq, Option}
+use Rattle.std.specs.Prelude.{ℕ, Bool, true, false, not, ◌&&◌, ◌||◌, ◌==◌, if◌then◌else◌, List, [], ◌∷◌, length, map, find, codes, bytes_eq, Option}
 use Rattle.std.specs.Borrow.{Bor}
 use Rattle.std.specs.List.{list_all, list_any}
 use Rattle.gate_base.specs.declared.page.Pair.{Pair}
+use Rattle.request_fields.specs.Query.{is_asked}
 use Rattle.s3_requests.specs.declared.rows.Level.{Level}
 use Rattle.s3_requests.specs.declared.rows.Level.TheVariants.{Service, Bucket, Key}
 use Rattle.s3_requests.specs.declared.rows.Row.{Row}
@@ -99,6 +100,12 @@ shape_of AbortMultipartUpload = plain (codes "DELETE") Key (codes "uploadId" ∷
 shape_of CopyObject = plain (codes "PUT") Key [] []
 shape_of UploadPartCopy = plain (codes "PUT") Key (codes "partNumber" ∷ codes "uploadId" ∷ []) []
 
+-- a row whose operation takes the bytes of the body
+abbrev pub takes_body : Row → Bool
+takes_body PutObject = true
+takes_body UploadPart = true
+takes_body _ = false
+
 -- a row whose operation takes neither a content type and metadata, nor a source, nor anything of the body
 abbrev pub is_plain : Row → Bool
 is_plain PutObject = false
@@ -134,17 +141,6 @@ is_same_level Service Service = true
 is_same_level Bucket Bucket = true
 is_same_level Key Key = true
 is_same_level _ _ = false
-
--- all names of a query count but `x-id`, by which clients name the operation a second time
-abbrev pub counts_as_query_name : Pair → Bool
-counts_as_query_name pair = not (bytes_eq pair.name (codes "x-id"))
-
-abbrev pub asked : List Pair → List Pair
-asked query = filter counts_as_query_name query
-
--- a name counts in a query
-abbrev pub is_asked : List Pair → List ℕ → Bool
-is_asked query name = list_any (λ pair. bytes_eq pair.name name) (asked query)
 
 -- a name is one of these
 abbrev pub is_among : List ℕ → List (List ℕ) → Bool

@@ -9,8 +9,9 @@ use Rattle.s3_requests.specs.declared.rows.Row.{Row}
 use Rattle.s3_requests.specs.declared.taken.Taken.{Taken}
 use Rattle.s3_requests.specs.Content.{taken_type, taken_meta}
 use Rattle.s3_requests.specs.Copies.{given_source}
-use Rattle.s3_requests.specs.Headers.{given_acl}
+use Rattle.request_fields.specs.Headers.{given_acl}
 
+-- all that the headers give the operation of a row
 abbrev pub given : Row → List Pair → Taken
 given row headers = record {
   acl = given_acl headers;

@@ -1,23 +1,7 @@
-//! Laws of the definitions, each the contract of a function that does nothing.
-ghost use Rattle.s3_requests.specs.Laws.{GivenMeta, RangeAsked, SourceNamed, TokenReturns};
+//! A law of what requests mean, as the contract of a function that does nothing.
+ghost use Rattle.s3_requests.specs.Laws.{StrictAsked};
 
-/// The metadata of headers has their entries and no other, each name once and in order.
-pub fn law_given_meta()
-    ensures { GivenMeta }
-{}
-
-/// The value of a Range header is read as a range exactly where it asks for that range, in its whole text.
-pub fn law_range_asked()
-    ensures { RangeAsked }
-{}
-
-/// The token that a listing prints for the text of its last item is read as that text.
-pub fn law_token_returns()
-    ensures { TokenReturns }
-{}
-
-/// The text of `x-amz-copy-source` is read as a bucket and a key exactly where it stands for them, with `/` between, behind one
-/// leading `/` or none.
-pub fn law_source_named()
-    ensures { SourceNamed }
+/// Without the extended profile no request asks for a copy under a condition, or for a listing of uploads with escaped texts.
+pub fn law_strict_asked()
+    ensures { StrictAsked }
 {}

@@ -2,19 +2,16 @@
 //! known here.
 #![tactic(auto)]
 
-mod conditions;
 mod content;
 mod copies;
 mod deletes;
-mod headers;
 mod laws;
-mod listings;
 mod meant;
+mod operation;
 mod query;
-mod ranges;
 mod rows;
 mod taken;
 mod uploads;
 
-pub use laws::{law_given_meta, law_range_asked, law_source_named, law_token_returns};
+pub use laws::law_strict_asked;
 pub use meant::{Meant, meaning};

@@ -2,10 +2,11 @@
 ghost use Rattle.std.specs.Prelude.{◌≡◌, true, false, ◌&&◌, find, bytes_eq};
 ghost use Rattle.std.specs.List.{list_any};
 ghost use Rattle.std.specs.Option.{option_copied};
-ghost use Rattle.s3_requests.specs.Rows.{rows, plain, for_all, with_content, with_location, with_acl, shape_of, level_of, is_same_level, is_asked, is_among, is_query_name_of_row, texts, agrees, is_same_set, fits, is_method};
+ghost use Rattle.request_fields.specs.Query.{is_asked};
+ghost use Rattle.s3_requests.specs.Rows.{rows, plain, for_all, with_content, with_location, with_acl, shape_of, level_of, is_same_level, is_among, is_query_name_of_row, texts, agrees, is_same_set, fits, is_method};
 
-use crate::query::is_asked;
 use gate_base::Pair;
+use request_fields::is_asked;
 use std::marker::Model;
 
 /// How far a target goes.

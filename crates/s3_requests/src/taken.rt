@@ -2,8 +2,8 @@
 ghost use Rattle.std.specs.Prelude.{◌≡◌, if◌then◌else◌};
 ghost use Rattle.s3_requests.specs.Taken.{replaced_by, copy_asked};
 
-use crate::copies::Source;
 use gate_base::Bytes;
+use request_fields::Source;
 use s3_machine::{Op, Replaced};
 use s3_names::{Acl, Meta};
 

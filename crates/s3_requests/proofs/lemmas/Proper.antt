@@ -31,11 +31,12 @@ use Rattle.s3_requests.specs.declared.rows.Row.TheVariants.{ListBuckets, CreateB
 use Rattle.s3_requests.specs.declared.rows.Row.TheVariants.{GetBucketAcl, ListObjects, ListObjectsV2, PutObject, GetObject, HeadObject}
 use Rattle.s3_requests.specs.declared.rows.Row.TheVariants.{DeleteObject, GetObjectAcl, ListMultipartUploads, CreateMultipartUpload, UploadPart}
 use Rattle.s3_requests.specs.declared.rows.Row.TheVariants.{ListParts, AbortMultipartUpload, CompleteMultipartUpload, DeleteObjects, CopyObject, UploadPartCopy}
-use Rattle.s3_requests.specs.Copies.{names_source, copying}
+use Rattle.request_fields.specs.Copies.{names_source}
+use Rattle.s3_requests.specs.Copies.{copying}
 use Rattle.s3_requests.specs.Rows.{rows, row_for, shape_of, level_of, is_same_level, is_same_set, fits}
 use Rattle.s3_requests.specs.Deletes.{no_deletes}
-use Rattle.s3_requests.specs.Headers.{given_acl}
-use Rattle.s3_requests.specs.Listings.{has_long_text}
+use Rattle.request_fields.specs.Headers.{given_acl}
+use Rattle.request_fields.specs.Listings.{has_long_text}
 use Rattle.s3_requests.specs.Proper.{IsProperCode, IsProperMeant}
 use Rattle.s3_requests.proofs.ProperCopies.{source_proper, replaced_proper}
 use Rattle.s3_requests.proofs.ProperReads.{range_proper, first_proper, second_proper, uploads_proper, most_proper, part_proper}

@@ -1,0 +1,9 @@
+pub mod Conditions
+pub mod Content
+pub mod Copies
+pub mod Headers
+pub mod Laws
+pub mod Listings
+pub mod Query
+pub mod Ranges
+pub mod Uploads

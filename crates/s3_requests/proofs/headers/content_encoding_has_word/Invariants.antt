@@ -1,9 +1,0 @@
-use Rattle.std.proofs.Common.{◌≡◌, length}
-use Rattle.s3_requests.specs.Headers.{has_part}
-use Rattle.s3_requests.proofs.headers.content_encoding_has_word.Given as goal
-
-abbrev pub invariant-bytes : goal.invariant-bytes
-invariant-bytes l = has_part l.word l.text ≡ has_part l.word l.rest
-
-abbrev pub decreases-bytes : goal.decreases-bytes
-decreases-bytes l = length l.rest
