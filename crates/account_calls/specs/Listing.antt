@@ -11,6 +11,7 @@ use Rattle.std.specs.Prelude.{
   Bool,
   true,
   ◌&&◌,
+  IsTrue,
   cond,
   List,
   [],
@@ -27,8 +28,9 @@ use Rattle.std.specs.Prelude.{
   Result,
   Ok,
   Err,
+  IfOk,
 }
-use Rattle.std.specs.List.{filter}
+use Rattle.std.specs.List.{AllByRecursion, filter}
 use Rattle.std.specs.Ordering.{is_gt, is_lt}
 use Rattle.std.specs.Option.{unwrap_or}
 use Rattle.std.specs.FinMap.{get, keys}
@@ -39,10 +41,12 @@ use Rattle.s3_machine.specs.declared.items.BucketItem.{BucketItem}
 use Rattle.s3_machine.specs.State.{State}
 use Rattle.s3_machine.specs.Step.{bucket_items}
 use Rattle.swift_calls.specs.Account.{SwiftContainer, SwiftAccount}
+use Rattle.swift_calls.specs.History.{History, present}
 use Rattle.swift_calls.specs.Limits.{IsMarker}
 use Rattle.swift_calls.specs.declared.calls.SwiftReply.{SwiftReply}
 use Rattle.swift_calls.specs.declared.calls.SwiftReply.TheVariants.{Containers, Readers}
 use Rattle.upload_records.specs.Native.{IsSettled}
+use Rattle.upload_records.specs.Consistent.{IsThere}
 use Rattle.account_calls.specs.declared.listing.TheConstants.{MOST_NAMES}
 use Rattle.account_calls.specs.declared.fault.PlanFault.{PlanFault}
 use Rattle.account_calls.specs.declared.fault.PlanFault.TheVariants.{Inconsistent}
@@ -69,6 +73,10 @@ after marker names = filter (λ name. is_gt (name_cmp name marker)) names
 -- all names, in byte order
 abbrev pub TellsNames : SwiftAccount → List (List ℕ) → Type 0
 TellsNames tree told = told ≡ keys tree
+
+-- where the store is observable, whether its account is consistent or not, there is a container of each name that is told
+abbrev pub NamesContainers : History → Result (List (List ℕ)) PlanFault → Type 0
+NamesContainers h result = IsTrue h.observable → IfOk result (AllByRecursion (IsThere (present h)))
 
 -- a page of names
 abbrev pub TellsPage : List ℕ → SwiftAccount → List (List ℕ) → Type 0

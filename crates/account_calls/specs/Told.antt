@@ -33,3 +33,7 @@ CountsOne p q (Err Inconsistent) = q ≡ p + 1
 -- where the store is observable, its account is as it was, whether that is consistent or not
 abbrev pub LeavesAccount : History → History → Type 0
 LeavesAccount old new = IsTrue old.observable → present new ≡ present old
+
+-- where the store is observable, its account is as it was at each number of calls, whether that is consistent or not
+abbrev pub LeavesThroughout : History → History → Type 0
+LeavesThroughout old new = IsTrue old.observable → (k : ℕ) → old.called ≤ k → k ≤ new.called → new.account_at k ≡ present old

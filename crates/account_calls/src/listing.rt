@@ -1,5 +1,5 @@
 //! The listing of the buckets: the names of the containers page by page, and HEAD of each that is a bucket's.
-ghost use Rattle.std.specs.Prelude.{◌≡◌, ◌≢◌, ◌<◌, ◌++◌, ◌+◌, true, length, IfOk, OnOk, Err};
+ghost use Rattle.std.specs.Prelude.{◌≡◌, ◌≢◌, ◌<◌, ◌++◌, ◌+◌, true, length, IfOk, OnOk, Err, Ok};
 ghost use Rattle.std.specs.List.{All, filter};
 ghost use Rattle.std.specs.FinMap.{len};
 ghost use Rattle.gate_base.specs.Told.{moment_limit};
@@ -10,7 +10,7 @@ ghost use Rattle.upload_records.specs.Native.{IsSettled, s3_state};
 ghost use Rattle.account_calls.specs.Answers.{pages};
 ghost use Rattle.account_calls.specs.Calls.{always, by_account, Any, Asks, Tells};
 ghost use Rattle.account_calls.specs.Lent.{Stays};
-ghost use Rattle.account_calls.specs.Told.{LeavesAccount};
+ghost use Rattle.account_calls.specs.Told.{LeavesThroughout};
 ghost use Rattle.account_calls.specs.Listing.{
   ascends,
   created_due,
@@ -18,6 +18,7 @@ ghost use Rattle.account_calls.specs.Listing.{
   HasNames,
   heads,
   MayListAfter,
+  NamesContainers,
   names_due,
   next_marker,
   TellsAdded,
@@ -50,7 +51,8 @@ fn container_names_page<W: Swift>(store: &mut W, marker: &Bytes) -> Result<List<
         × ((W.history store.new).called ≡ (W.history store.old).called + 1)) }
     ensures asks { Asks (always 1) (W.history store.old) (W.history store.new)
         (MayListAfter marker.now) (TellsOf (TellsPage marker.now)) result }
-    ensures leaves { LeavesAccount (W.history store.old) (W.history store.new) }
+    ensures leaves { LeavesThroughout (W.history store.old) (W.history store.new) }
+    ensures there { NamesContainers (W.history store.old) result }
 {
     let request = SwiftRequest::ListContainers {
         marker: marker.copy()?,
@@ -105,7 +107,9 @@ fn add_container_names_page<W: Swift>(
         × ((W.history store.new).called ≡ (W.history store.old).called + 1)) }
     ensures asks { Asks (always 1) (W.history store.old) (W.history store.new)
         (MayListAfter marker.now) (TellsOf (TellsNext marker.now names.old names.new)) result }
-    ensures leaves { LeavesAccount (W.history store.old) (W.history store.new) }
+    ensures leaves { LeavesThroughout (W.history store.old) (W.history store.new) }
+    ensures there { NamesContainers (W.history store.old) (Ok names.old)
+        → IfOk result (λ _. NamesContainers (W.history store.old) (Ok names.new)) }
 {
     let page = container_names_page(store, marker)?;
     add_container_names(names, page.as_slice())?;
@@ -242,13 +246,15 @@ pub fn list_buckets<W: Swift>(
 }
 
 /// The names of all containers in byte order, page by page, be a completion sealed or not. At most as many calls as there are
-/// pages of names, where the store is observable and its account consistent; and the account stays, consistent or not. Faults as
+/// pages of names, where the store is observable and its account consistent; and at each of them the account is as it was,
+/// consistent or not, and has the containers of these names. Faults as
 /// for [`list_buckets`].
 pub fn container_names<W: Swift>(alloc: Global, store: &mut W) -> Result<List<Bytes>, PlanFault>
     ensures asks { Asks (by_account (pages (len (present (W.history store.old)))))
         (W.history store.old) (W.history store.new) Any
         (TellsOf TellsNames) result }
-    ensures leaves { LeavesAccount (W.history store.old) (W.history store.new) }
+    ensures leaves { LeavesThroughout (W.history store.old) (W.history store.new) }
+    ensures there { NamesContainers (W.history store.old) result }
 {
     let mut names = List::new(alloc);
     let mut marker = Bytes::new(alloc);

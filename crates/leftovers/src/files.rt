@@ -9,6 +9,7 @@ ghost use Rattle.swift_calls.specs.Limits.{IsMarker};
 ghost use Rattle.account_calls.specs.Calls.{always, by_account, Any, Asks};
 ghost use Rattle.account_calls.specs.FilePages.{TellsFiles};
 ghost use Rattle.account_calls.specs.Listing.{TellsOf};
+ghost use Rattle.account_calls.specs.Told.{LeavesThroughout};
 ghost use Rattle.leftovers.specs.Kept.{goes};
 ghost use Rattle.leftovers.specs.Sweeping.{sweep_calls, MayDelete, MaySweep, PaysPage, TellsAll, TellsDeleted, TellsPage, TellsSwept};
 
@@ -37,6 +38,7 @@ pub fn file_page<W: Swift>(
     ensures page { IfOk result (λ items. IsPageOf [] marker.now (map name_in items)) }
     ensures asks { Asks (always 1) (W.history store.old) (W.history store.new) Any
         (TellsOf (TellsFiles folder.now [] marker.now)) result }
+    ensures leaves { LeavesThroughout (W.history store.old) (W.history store.new) }
 {
     Ok(names(alloc, store, folder, b"", marker)?)
 }

@@ -13,6 +13,7 @@ ghost use Rattle.upload_records.specs.Layout.{segments_name};
 ghost use Rattle.account_calls.specs.Calls.{always, by_account, Asks};
 ghost use Rattle.account_calls.specs.Interpret.{Gives};
 ghost use Rattle.account_calls.specs.Listing.{TellsOf};
+ghost use Rattle.account_calls.specs.Told.{LeavesThroughout};
 ghost use Rattle.account_calls.specs.declared.fault.PlanFault.TheVariants as fault;
 ghost use Rattle.leftovers.specs.Gathering.{calls_a_file, folder_of, gather_calls, listing_due, open_by, open_due, sub_manifests_in, AreKnown, HasItem, HasItems, HasListing, HasRecord, InBucket, IsKnown, PaysGathering, TellsAdded, TellsAll, TellsGathered, TellsInner, TellsListing, TellsNamed, TellsOpen};
 ghost use Rattle.leftovers.specs.Leftovers.{is_named_in, is_open, is_sub_manifest_name};
@@ -53,6 +54,7 @@ fn is_open_upload<W: Swift>(
     ensures asks { (bucket : List ℕ) → is_bucket bucket ≡ true → folder.now ≡ folder_of Records bucket
         → Asks (always 1) (W.history store.old) (W.history store.new)
         (HasRecord bucket name.now) (TellsOf (TellsOpen bucket name.now)) result }
+    ensures leaves { LeavesThroughout (W.history store.old) (W.history store.new) }
 {
     let container = folder.copy()?;
     let name = name.copy()?;
@@ -114,6 +116,7 @@ fn add_record<W: Swift>(
         → Asks (always 1) (W.history store.old) (W.history store.new)
         (HasRecord bucket name.now)
         (TellsOf (TellsAdded Records bucket (name.now ∷ []) table.old table.new)) result }
+    ensures leaves { LeavesThroughout (W.history store.old) (W.history store.new) }
 {
     if !is_open_upload(alloc, store, folder, name)? {
         return Ok(());
@@ -135,6 +138,7 @@ fn listing_of_object<W: Swift>(
     requires name { is_key item.now.name ≡ true }
     ensures asks { Asks (always 1) (W.history store.old) (W.history store.new)
         (HasItem bucket.now bucket.now item.now) (TellsOf (TellsListing bucket.now item.now.name)) result }
+    ensures leaves { LeavesThroughout (W.history store.old) (W.history store.new) }
 {
     if item.size == 0 {
         return Ok(List::new(alloc));
@@ -157,6 +161,7 @@ fn get_listing<W: Swift>(
     requires name { is_key name.now ≡ true }
     ensures asks { Asks (always 1) (W.history store.old) (W.history store.new)
         (HasListing container.now name.now) (TellsOf (TellsListing container.now name.now)) result }
+    ensures leaves { LeavesThroughout (W.history store.old) (W.history store.new) }
 {
     let container = container.copy()?;
     let name = name.copy()?;
@@ -216,6 +221,7 @@ fn listing_of_sub_manifest<W: Swift>(
     ensures asks { Asks (always 1) (W.history store.old) (W.history store.new)
         (HasListing (segments_name bucket.now) name.now)
         (TellsOf (TellsListing (segments_name bucket.now) name.now)) result }
+    ensures leaves { LeavesThroughout (W.history store.old) (W.history store.new) }
 {
     if !is_key(name.as_slice()) {
         return Err(PlanFault::Inconsistent);
@@ -236,6 +242,7 @@ fn add_sub_manifest<W: Swift>(
     ensures asks { Asks (always 1) (W.history store.old) (W.history store.new)
         (HasListing (segments_name bucket.now) name.now)
         (TellsOf (TellsInner bucket.now name.now table.old table.new)) result }
+    ensures leaves { LeavesThroughout (W.history store.old) (W.history store.new) }
 {
     let segments = listing_of_sub_manifest(alloc, store, bucket, name)?;
     add_names(table, segments.as_slice())?;
@@ -255,6 +262,7 @@ fn add_segment<W: Swift>(
     ensures asks { Asks (always (sub_manifests_in (segment.now ∷ []))) (W.history store.old)
         (W.history store.new) (IsKnown bucket.now segment.now)
         (TellsOf (TellsNamed bucket.now (segment.now ∷ []) table.old table.new)) result }
+    ensures leaves { LeavesThroughout (W.history store.old) (W.history store.new) }
 {
     table.put(segment.name.as_slice(), true)?;
     if !is_sub_manifest(segment.name.as_slice()) {
@@ -275,6 +283,7 @@ fn add_listing<W: Swift>(
     ensures asks { Asks (always (sub_manifests_in segments.now)) (W.history store.old)
         (W.history store.new) (AreKnown bucket.now segments.now)
         (TellsOf (TellsNamed bucket.now segments.now table.old table.new)) result }
+    ensures leaves { LeavesThroughout (W.history store.old) (W.history store.new) }
 {
     for segment in segments {
         add_segment(alloc, store, bucket, segment, table)?;
@@ -296,6 +305,7 @@ fn add_object<W: Swift>(
     ensures asks { Asks (always calls_a_file) (W.history store.old) (W.history store.new)
         (HasItem bucket.now bucket.now item.now)
         (TellsOf (TellsAdded Objects bucket.now (item.now.name ∷ []) table.old table.new)) result }
+    ensures leaves { LeavesThroughout (W.history store.old) (W.history store.new) }
 {
     let segments = listing_of_object(alloc, store, bucket, item)?;
     let many = sub_manifests_in(segments.as_slice());
@@ -321,6 +331,7 @@ fn add_item<W: Swift>(
     ensures asks { Asks (always calls_a_file) (W.history store.old) (W.history store.new)
         (HasItem folder.now bucket.now item.now)
         (TellsOf (TellsAdded source bucket.now (item.now.name ∷ []) table.old table.new)) result }
+    ensures leaves { LeavesThroughout (W.history store.old) (W.history store.new) }
 {
     match source {
         Source::Records => add_record(alloc, store, folder, &item.name, table),
@@ -344,6 +355,7 @@ fn add_items<W: Swift>(
     ensures asks { Asks (always (calls_a_file * length items.now)) (W.history store.old) (W.history store.new)
         (HasItems folder.now bucket.now items.now)
         (TellsOf (TellsAdded source bucket.now (map name_in items.now) table.old table.new)) result }
+    ensures leaves { LeavesThroughout (W.history store.old) (W.history store.new) }
 {
     for item in items {
         add_item(alloc, store, bucket, folder, source, item, table)?;
@@ -372,6 +384,7 @@ fn gather_page<W: Swift>(
         (TellsOf (TellsGathered source folder.now bucket.now marker.now table.old table.new)) result }
     ensures pays { PaysGathering folder.now bucket.now marker.now (W.history store.old)
         (W.history store.new) result }
+    ensures leaves { LeavesThroughout (W.history store.old) (W.history store.new) }
 {
     let page = file_page(alloc, store, folder.as_slice(), marker.as_slice())?;
     let next = next_marker(page.as_slice())?;
@@ -396,6 +409,7 @@ pub fn gather<W: Swift>(
     ensures asks { Asks (by_account (gather_calls (present (W.history store.old)) folder.now))
         (W.history store.old) (W.history store.new) (InBucket bucket.now)
         (TellsOf (TellsAll source folder.now bucket.now)) result }
+    ensures leaves { LeavesThroughout (W.history store.old) (W.history store.new) }
 {
     let mut table = Table::new(alloc);
     let mut marker = Bytes::new(alloc);

@@ -4,6 +4,7 @@ ghost use Rattle.s3_names.specs.Bucket.{is_bucket};
 ghost use Rattle.swift_calls.specs.History.{present};
 ghost use Rattle.account_calls.specs.Calls.{by_account, Asks};
 ghost use Rattle.account_calls.specs.Listing.{TellsOf};
+ghost use Rattle.account_calls.specs.Told.{LeavesThroughout};
 ghost use Rattle.leftovers.specs.Segments.{kept_calls, segments_calls, HasSettled, SweepsSegments, TellsKept};
 
 use crate::files::sweep_files;
@@ -26,6 +27,7 @@ pub(crate) fn kept_of<W: Swift>(
     ensures asks { Asks (by_account (kept_calls (present (W.history store.old)) bucket.now))
         (W.history store.old) (W.history store.new) (HasSettled bucket.now)
         (TellsOf (TellsKept bucket.now)) result }
+    ensures leaves { LeavesThroughout (W.history store.old) (W.history store.new) }
 {
     let uploads = uploads_container(alloc, bucket.as_slice())?;
     let opened = gather(alloc, store, bucket, &uploads, Source::Records)?;

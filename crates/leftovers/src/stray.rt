@@ -5,6 +5,7 @@ ghost use Rattle.swift_calls.specs.Step.{IsContainerName};
 ghost use Rattle.upload_records.specs.Consistent.{IsBeside};
 ghost use Rattle.account_calls.specs.Calls.{always, by_account, Any, Asks};
 ghost use Rattle.account_calls.specs.Listing.{TellsOf};
+ghost use Rattle.account_calls.specs.Told.{LeavesThroughout};
 ghost use Rattle.account_calls.specs.declared.fault.PlanFault.TheVariants as fault;
 ghost use Rattle.leftovers.specs.Strays.{clear_calls, removed_due, there_due, ClearsSide, IsBareStray, IsStray, Removes, TellsThere};
 
@@ -22,6 +23,7 @@ pub fn is_there<W: Swift>(store: &mut W, name: &Bytes) -> Result<bool, PlanFault
     requires { IsContainerName name.now }
     ensures asks { Asks (always 1) (W.history store.old) (W.history store.new) Any
         (TellsOf (TellsThere name.now)) result }
+    ensures leaves { LeavesThroughout (W.history store.old) (W.history store.new) }
 {
     let container = name.copy()?;
     let reply = ask(store, SwiftRequest::HeadContainer { container })?;

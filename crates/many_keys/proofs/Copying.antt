@@ -240,7 +240,7 @@ copying_none a bucket id from_bucket from_id moment cut list none =
       };
     }))
 
-same_below : (n : ℕ) (list : List SealedPart) → list_all (λ (q : Piece). nat_lt q.number n) (map piece_in list) ≡ list_all (λ (p : SealedPart). nat_lt p.number n) list
+pub same_below : (n : ℕ) (list : List SealedPart) → list_all (λ (q : Piece). nat_lt q.number n) (map piece_in list) ≡ list_all (λ (p : SealedPart). nat_lt p.number n) list
 same_below n [] = refl
 same_below n (p ∷ list) = ap (λ t. nat_lt p.number n && t) (same_below n list)
 

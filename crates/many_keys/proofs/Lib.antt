@@ -1,4 +1,5 @@
 pub mod Alike
+pub mod CopiedFrom
 pub mod CopiedPart
 pub mod CopiedSubs
 pub mod CopiesStand
@@ -8,10 +9,12 @@ pub mod Copying
 pub mod CutCalls
 pub mod Cuts
 pub mod Deleting
+pub mod OwnSegments
 pub mod PieceCalls
 pub mod PutsCopy
 pub mod PutsFile
 pub mod ReadCalls
+pub mod ReplyKinds
 pub mod Runs
 pub mod SideFiles
 pub mod Sources

@@ -1,6 +1,6 @@
 -- What the calls of a part's copy told before the last one: of the upload that the part is put into, and of the object that its
 -- bytes are of. Source: this profile.
-use Rattle.std.specs.Prelude.{◌≡◌, ℕ, true, List, length, Option, Some}
+use Rattle.std.specs.Prelude.{◌≡◌, ℕ, true, IsTrue, IfOk, List, length, Option, Some, Result}
 use Rattle.std.specs.FinMap.{get}
 use Rattle.s3_machine.specs.Copies.{copied_span, has_last}
 use Rattle.s3_machine.specs.Reading.{taken}
@@ -9,14 +9,18 @@ use Rattle.s3_machine.specs.declared.operation.Label.{Label}
 use Rattle.s3_machine.specs.declared.operation.ObjectHead.{ObjectHead}
 use Rattle.s3_machine.specs.declared.operation.Op.{Op}
 use Rattle.s3_machine.specs.declared.operation.Op.TheVariants.{CopyObject, CopyPart}
+use Rattle.s3_machine.specs.declared.operation.Reply.{Reply}
 use Rattle.swift_calls.specs.Account.{SwiftAccount}
+use Rattle.swift_calls.specs.History.{History, present}
 use Rattle.upload_records.specs.Native.{object_at, s3_state}
 use Rattle.account_calls.specs.Calls.{HasBucket, TellsObject}
 use Rattle.account_calls.specs.Puts.{StandsIn}
+use Rattle.account_calls.specs.declared.fault.PlanFault.{PlanFault}
 use Rattle.upload_calls.specs.Found.{IsOpenUpload}
 use Rattle.upload_calls.specs.Interpret.{put_part_of}
 use Rattle.upload_calls.specs.Records.{StandsPart}
-use Rattle.many_keys.specs.Copies.{StandsCopy}
+use Rattle.many_keys.specs.Copies.{IsOfStored}
+use Rattle.many_keys.specs.OwnSegments.{StandsCopy}
 
 -- the upload is open, and the bucket of the source is there
 pub record MayCopyFrom (bucket key text : List ℕ) (id : ℕ) (from_bucket : List ℕ) (tree : SwiftAccount) : Type 0 where
@@ -58,3 +62,14 @@ abbrev pub CopyStands : Op → Label → SwiftAccount → Type 0
 CopyStands (CopyObject bucket key acl from_bucket from_key replaced conditions) label tree = StandsCopy bucket key label.moment tree
 CopyStands (CopyPart bucket key id number from_bucket from_key range conditions) label tree = StandsPartCopy bucket id number label.moment tree
 CopyStands _ label tree = Unit {0}
+
+-- ---- of what it was copied
+
+-- a copy of a whole object is of a file with the ETag that is replied; of any other operation nothing is said
+abbrev pub IsOfSource : Op → SwiftAccount → Reply → Type 0
+IsOfSource (CopyObject bucket key acl from_bucket from_key replaced conditions) tree reply = IsOfStored tree from_bucket from_key reply
+IsOfSource _ tree reply = Unit {0}
+
+-- so it is with what the plan of the operation copied
+pub record OfCopiedSource (op : Op) (h : History) (end : Result Reply PlanFault) : Type 0 where
+  pub so : IsTrue h.observable → IfOk end (IsOfSource op (present h))

@@ -1,17 +1,19 @@
 -- What the calls of a copy told of its source, and what the copy is put with. Source: Amazon S3 API Reference, "CopyObject", and
 -- this profile.
-use Rattle.std.specs.Prelude.{◌≡◌, ◌<◌, ◌==◌, ◌^◌, ℕ, Bool, true, ◌&&◌, if◌then◌else◌, nat_le, bytes_eq, List, length, Option, None, Some, Result, Ok, Err}
+use Rattle.std.specs.Prelude.{◌≡◌, ◌≤◌, ◌<◌, ◌==◌, ◌^◌, ℕ, Bool, true, false, IsTrue, IfOk, ◌&&◌, if◌then◌else◌, nat_le, bytes_eq, List, length, Option, None, Some, Result, Ok, Err}
 use Rattle.gate_base.specs.declared.page.Pair.{Pair}
 use Rattle.s3_names.specs.declared.acl.Acl.{Acl}
 use Rattle.s3_machine.specs.declared.operation.ObjectHead.{ObjectHead}
 use Rattle.s3_machine.specs.declared.operation.Replaced.{Replaced}
+use Rattle.s3_machine.specs.declared.operation.Reply.{Reply}
+use Rattle.s3_machine.specs.declared.operation.Reply.TheVariants.{Copied}
 use Rattle.s3_machine.specs.ETag.{body_etag}
 use Rattle.s3_machine.specs.Limits.{is_content_type, is_proper_meta, most_body_bytes}
 use Rattle.s3_machine.specs.State.{State}
-use Rattle.swift_calls.specs.Account.{SwiftObject, SwiftAccount, find_object}
-use Rattle.swift_marks.specs.declared.tag.Tag.{Tag}
-use Rattle.swift_marks.specs.Tag.{is_etag, tag_text}
-use Rattle.account_calls.specs.Calls.{HasBucket, TellsBucket, TellsBytes, TellsObject}
+use Rattle.swift_calls.specs.Account.{SwiftAccount}
+use Rattle.swift_calls.specs.History.{History, present}
+use Rattle.swift_marks.specs.Tag.{is_etag}
+use Rattle.account_calls.specs.Calls.{HasBucket, IsStoredAs, TellsBucket, TellsBytes, TellsObject}
 use Rattle.account_calls.specs.declared.fault.PlanFault.{PlanFault}
 use Rattle.account_calls.specs.declared.fault.PlanFault.TheVariants.{Inconsistent}
 
@@ -45,6 +47,27 @@ abbrev pub body_due : ObjectHead → Option (List ℕ) → Result (List ℕ) Pla
 body_due head None = Err Inconsistent
 body_due head (Some body) = if is_body_to_copy head body then Ok body else Err Inconsistent
 
+-- ---- over every observable store, whether its account is consistent or not
+
+-- this was done only of a file that is what its tag says, of an object with this ETag and this size
+abbrev pub OfStored : {T : Type 0} → History → List ℕ → List ℕ → List ℕ → ℕ → Result T PlanFault → Type 0
+OfStored h bucket key etag size result = IsTrue h.observable → IfOk result (λ told. IsStoredAs (present h) bucket key etag size)
+
+-- a copy of an object that was put in one piece is of a file that is what its tag says, of an object with the ETag that is replied
+abbrev pub IsOfStored : SwiftAccount → List ℕ → List ℕ → Reply → Type 0
+IsOfStored tree bucket key (Copied part etag modified) = length etag ≤ 32 → (size : ℕ) × IsStoredAs tree bucket key etag size
+IsOfStored tree bucket key reply = Unit {0}
+
+-- so is what a plan, or the rest of one, copied: the file stood as its calls began
+pub record CopiesStored (h : History) (bucket key : List ℕ) (end : Result Reply PlanFault) : Type 0 where
+  pub so : IsTrue h.observable → IfOk end (IsOfStored (present h) bucket key)
+
+-- ---- what is told
+
+-- the reply to a copy that was put, over every store: it has this ETag and this moment
+abbrev pub TellsCopied : List ℕ → ℕ → Result Reply PlanFault → Type 0
+TellsCopied etag moment end = IfOk end (λ reply. reply ≡ Copied false etag moment)
+
 -- ---- what is given of the state
 
 -- the bucket that a copy goes to has this list, and the bucket of its source is there
@@ -69,13 +92,3 @@ pub record IsReadSource (bucket : List ℕ) (acl : Acl) (from_bucket from_key : 
 abbrev pub content_of : Option Replaced → List ℕ → List Pair → Replaced
 content_of None content_type meta = record { content_type = content_type; meta = meta }
 content_of (Some replaced) content_type meta = replaced
-
--- ---- what stands, over every observable store, whether its account is consistent or not
-
--- a file stands under the key whose tag is of this moment
-pub record StandsCopy (bucket key : List ℕ) (moment : ℕ) (tree : SwiftAccount) : Type 0 where
-  pub file : SwiftObject
-  pub tag : Tag
-  pub there : find_object tree bucket key ≡ Some file
-  pub tagged : file.content_type ≡ tag_text tag
-  pub dated : tag.moment ≡ moment

@@ -21,6 +21,8 @@ ghost use Rattle.account_calls.specs.Puts.{EnsuresIfDone, StandsIn};
 ghost use Rattle.upload_calls.specs.Found.{IsOpenUpload};
 ghost use Rattle.upload_calls.specs.Interpret.{put_part_of};
 ghost use Rattle.many_keys.specs.CopiedPart.{MayCopyFrom, MayCopyOf, MayPutCopy, StandsCopiedPart, StandsPartCopy};
+ghost use Rattle.many_keys.specs.Replies.{AnswersMany};
+ghost use Rattle.many_keys.specs.Copies.{OfStored};
 
 use account_calls::{PlanFault, Settled, get_object, head_bucket, head_object};
 use gate_base::Bytes;
@@ -65,6 +67,7 @@ pub(crate) fn plan_upload_part_copy<W: Swift>(
     ensures stands { EnsuresIfDone (W.history state.new.store.now)
         (StandsPartCopy bucket.now text.now number label.now.moment) result }
     ensures stops { Stops in_upload_with_source 0 (W.history state.old.store.now) (W.history state.new.store.now) result }
+    ensures kind { AnswersMany result }
 {
     match find_upload(alloc, state, bucket, key, text)? {
         Found::NoBucket => Ok(Reply::Refused(Code::NoSuchBucket)),
@@ -111,6 +114,7 @@ fn plan_part_copy_into_upload<W: Swift>(
     ensures stands { EnsuresIfDone (W.history state.new.store.now)
         (StandsCopiedPart bucket.now id number label.now.moment) result }
     ensures stops { Stops in_upload_with_source 2 (W.history state.old.store.now) (W.history state.new.store.now) result }
+    ensures kind { AnswersMany result }
 {
     let Some(_) = head_bucket(state, &from_bucket)? else {
         return Ok(Reply::Refused(Code::NoSuchBucket));
@@ -156,6 +160,7 @@ fn plan_part_copy_from_bucket<W: Swift>(
     ensures stands { EnsuresIfDone (W.history state.new.store.now)
         (StandsCopiedPart bucket.now id number label.now.moment) result }
     ensures stops { Stops in_upload_with_source 3 (W.history state.old.store.now) (W.history state.new.store.now) result }
+    ensures kind { AnswersMany result }
 {
     let Some(head) = head_object(alloc, state, &from_bucket, &from_key)? else {
         return Ok(Reply::Refused(Code::NoSuchKey));
@@ -206,6 +211,7 @@ fn plan_part_copy_under_conditions<W: Swift>(
     ensures stands { EnsuresIfDone (W.history state.new.store.now)
         (StandsCopiedPart bucket.now id number label.now.moment) result }
     ensures stops { Stops in_upload_with_source 4 (W.history state.old.store.now) (W.history state.new.store.now) result }
+    ensures kind { AnswersMany result }
 {
     if !may_be_copied(conditions, &head) {
         return Ok(Reply::Refused(Code::PreconditionFailed));
@@ -224,8 +230,7 @@ fn plan_part_copy_under_conditions<W: Swift>(
     )
 }
 
-/// The rest of CopyPart without conditions, of a source that is there with this head: whether its bytes may be copied. None are
-/// asked for where none is wanted.
+/// The rest of CopyPart without conditions, of a source that is there with this head: whether its bytes may be copied.
 fn plan_part_copy_of_source<W: Swift>(
     alloc: Global,
     state: &mut Settled<'_, W>,
@@ -254,6 +259,7 @@ fn plan_part_copy_of_source<W: Swift>(
     ensures stands { EnsuresIfDone (W.history state.new.store.now)
         (StandsCopiedPart bucket.now id number label.now.moment) result }
     ensures stops { Stops in_upload_with_source 4 (W.history state.old.store.now) (W.history state.new.store.now) result }
+    ensures kind { AnswersMany result }
 {
     if !has_last(range, head.size) {
         return Ok(Reply::Refused(Code::InvalidRange));
@@ -263,6 +269,56 @@ fn plan_part_copy_of_source<W: Swift>(
     if wanted > limit {
         return Ok(Reply::Refused(Code::EntityTooLarge));
     }
+    plan_part_copy_of_wanted(
+        alloc,
+        state,
+        bucket,
+        id,
+        number,
+        from_bucket,
+        from_key,
+        range,
+        head,
+        wanted,
+        label,
+    )
+}
+
+/// The rest of CopyPart, of as many bytes as are wanted of a source with this head. None are asked for where none is wanted.
+fn plan_part_copy_of_wanted<W: Swift>(
+    alloc: Global,
+    state: &mut Settled<'_, W>,
+    bucket: &Bytes,
+    id: u128,
+    number: u32,
+    from_bucket: Bytes,
+    from_key: Bytes,
+    range: Option<(u64, u64)>,
+    head: ObjectHead,
+    wanted: u64,
+    label: &Label,
+) -> Result<Reply, PlanFault>
+    requires name { is_bucket bucket.now ≡ true }
+    requires number { IsPartNumber number }
+    requires source { IsPlace from_bucket from_key }
+    requires range { IfSome range IsProperCopyRange }
+    requires shown { IsShownHead (Some head) }
+    requires ends { has_last range head.size ≡ true }
+    requires wanted { wanted ≡ (copied_span range head.size).length }
+    requires sized { wanted ≤ body_limit state.old.settings.now }
+    requires moment { label.now.moment < moment_limit }
+    ensures stays { Stays state.old state.new }
+    ensures plans { (key text : List ℕ)
+        → Plans (always 2) (W.history state.old.store.now) (W.history state.new.store.now)
+        state.old.settings.now
+        (GivenOf (MayCopyOf bucket.now key text id from_bucket from_key head))
+        (CopyPart bucket.now key text number from_bucket from_key range no_conditions) label.now
+        known.Settled result }
+    ensures stands { EnsuresIfDone (W.history state.new.store.now)
+        (StandsCopiedPart bucket.now id number label.now.moment) result }
+    ensures unrefused { Unrefused result }
+    ensures kind { AnswersMany result }
+{
     if wanted == 0 {
         return plan_put_part_copy(alloc, state, bucket, id, number, Bytes::new(alloc), label);
     }
@@ -314,6 +370,9 @@ fn plan_part_copy_of_bytes<W: Swift>(
     ensures stands { EnsuresIfDone (W.history state.new.store.now)
         (StandsCopiedPart bucket.now id number label.now.moment) result }
     ensures unrefused { Unrefused result }
+    ensures kind { AnswersMany result }
+    ensures unchanged { OfStored (W.history state.old.store.now) from_bucket from_key head.etag head.size
+        result }
 {
     let etag = head.etag.as_slice();
     let told = get_object(alloc, state, from_bucket, from_key, etag, head.size, range)?;
@@ -350,6 +409,7 @@ fn plan_put_part_copy<W: Swift>(
     ensures stands { EnsuresIfDone (W.history state.new.store.now)
         (λ tree. StandsIn tree (put_part_of bucket.now id number bytes label.now.moment)) result }
     ensures unrefused { Unrefused result }
+    ensures kind { AnswersMany result }
 {
     let body = Body::new(bytes);
     let etag = body.etag();
@@ -391,6 +451,7 @@ fn plan_part_copy_with_etag<W: Swift>(
     ensures stands { EnsuresIfDone (W.history state.new.store.now)
         (λ tree. StandsIn tree (put_part_of bucket.now id number bytes label.now.moment)) result }
     ensures unrefused { Unrefused result }
+    ensures kind { AnswersMany result }
 {
     let text = Bytes::from_slice(alloc, etag)?;
     let moment = label.moment;

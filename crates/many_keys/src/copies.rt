@@ -12,11 +12,13 @@ ghost use Rattle.account_calls.specs.Answers.{copy_calls};
 ghost use Rattle.account_calls.specs.Calls.{always, by_account, Any, Given, TellsBucket};
 ghost use Rattle.account_calls.specs.Lent.{Stays};
 ghost use Rattle.account_calls.specs.Plan.{ended, Plans};
-ghost use Rattle.account_calls.specs.Refusals.{Stops, Unrefused};
+ghost use Rattle.account_calls.specs.Refusals.{Stops};
 ghost use Rattle.account_calls.specs.Shows.{with_source};
 ghost use Rattle.account_calls.specs.Puts.{EnsuresIfDone};
 ghost use Rattle.account_calls.specs.declared.state.Known.TheVariants as known;
-ghost use Rattle.many_keys.specs.Copies.{IsFoundBucket, IsFoundSource, IsProperHead, IsReadSource, StandsCopy, is_body_to_copy};
+ghost use Rattle.many_keys.specs.Copies.{CopiesStored, IsFoundBucket, IsFoundSource, IsProperHead, IsReadSource, TellsCopied, is_body_to_copy};
+ghost use Rattle.many_keys.specs.Replies.{AnswersMany};
+ghost use Rattle.many_keys.specs.OwnSegments.{StandsCopy};
 
 use crate::listed::copy_source_of_parts;
 use crate::source::{content_of, get_source_to_copy, head_source};
@@ -58,6 +60,8 @@ pub(crate) fn copy_object<W: Swift>(
     ensures stands { EnsuresIfDone (W.history state.new.store.now)
         (StandsCopy bucket key label.now.moment) result }
     ensures stops { Stops with_source 0 (W.history state.old.store.now) (W.history state.new.store.now) result }
+    ensures kind { AnswersMany result }
+    ensures source { CopiesStored (W.history state.old.store.now) from_bucket from_key result }
 {
     let Some(list) = head_bucket(state, &bucket)? else {
         return Ok(Reply::Refused(Code::NoSuchBucket));
@@ -105,10 +109,59 @@ fn copy_within<W: Swift>(
     ensures stands { EnsuresIfDone (W.history state.new.store.now)
         (StandsCopy bucket key label.now.moment) result }
     ensures stops { Stops with_source 1 (W.history state.old.store.now) (W.history state.new.store.now) result }
+    ensures kind { AnswersMany result }
+    ensures source { CopiesStored (W.history state.old.store.now) from_bucket from_key result }
 {
     if is_other_acl(acl, list) {
         return Ok(Reply::Refused(Code::NotImplemented));
     }
+    copy_with_acl(
+        alloc,
+        state,
+        bucket,
+        key,
+        acl,
+        list,
+        from_bucket,
+        from_key,
+        replaced,
+        conditions,
+        label,
+    )
+}
+
+/// The rest of CopyObject, with the access control list of its bucket.
+fn copy_with_acl<W: Swift>(
+    alloc: Global,
+    state: &mut Settled<'_, W>,
+    bucket: Bytes,
+    key: Bytes,
+    acl: Option<Acl>,
+    list: Acl,
+    from_bucket: Bytes,
+    from_key: Bytes,
+    replaced: Option<Replaced>,
+    conditions: &Conditions,
+    label: &Label,
+) -> Result<Reply, PlanFault>
+    requires place { IsPlace bucket key }
+    requires source { IsPlace from_bucket from_key }
+    requires replaced { IfSome replaced IsProperReplaced }
+    requires moment { label.now.moment < moment_limit }
+    requires acl { is_other_acl acl list ≡ false }
+    ensures stays { Stays state.old state.new }
+    ensures plans { Plans (by_account
+        (copy_calls 4 (present (W.history state.old.store.now)) bucket from_bucket from_key))
+        (W.history state.old.store.now) (W.history state.new.store.now) state.old.settings.now
+        (Given (λ s. TellsBucket bucket s (Some list)))
+        (CopyObject bucket key acl from_bucket from_key replaced conditions.now) label.now
+        known.Settled result }
+    ensures stands { EnsuresIfDone (W.history state.new.store.now)
+        (StandsCopy bucket key label.now.moment) result }
+    ensures stops { Stops with_source 1 (W.history state.old.store.now) (W.history state.new.store.now) result }
+    ensures kind { AnswersMany result }
+    ensures source { CopiesStored (W.history state.old.store.now) from_bucket from_key result }
+{
     let Some(from) = head_bucket(state, &from_bucket)? else {
         return Ok(Reply::Refused(Code::NoSuchBucket));
     };
@@ -156,6 +209,8 @@ fn copy_from<W: Swift>(
     ensures stands { EnsuresIfDone (W.history state.new.store.now)
         (StandsCopy bucket key label.now.moment) result }
     ensures stops { Stops with_source 2 (W.history state.old.store.now) (W.history state.new.store.now) result }
+    ensures kind { AnswersMany result }
+    ensures source { CopiesStored (W.history state.old.store.now) from_bucket from_key result }
 {
     let Some(head) = head_source(alloc, state, &from_bucket, &from_key)? else {
         return Ok(Reply::Refused(Code::NoSuchKey));
@@ -208,6 +263,8 @@ fn copy_under_conditions<W: Swift>(
     ensures stands { EnsuresIfDone (W.history state.new.store.now)
         (StandsCopy bucket key label.now.moment) result }
     ensures stops { Stops with_source 3 (W.history state.old.store.now) (W.history state.new.store.now) result }
+    ensures kind { AnswersMany result }
+    ensures source { CopiesStored (W.history state.old.store.now) from_bucket from_key result }
 {
     if !may_be_copied(conditions, &head) {
         return Ok(Reply::Refused(Code::PreconditionFailed));
@@ -257,6 +314,8 @@ fn copy_found<W: Swift>(
     ensures stands { EnsuresIfDone (W.history state.new.store.now)
         (StandsCopy bucket key label.now.moment) result }
     ensures stops { Stops with_source 3 (W.history state.old.store.now) (W.history state.new.store.now) result }
+    ensures kind { AnswersMany result }
+    ensures source { CopiesStored (W.history state.old.store.now) from_bucket from_key result }
 {
     if is_onto_itself(&bucket, &key, &from_bucket, &from_key, &replaced) {
         return Ok(Reply::Refused(Code::InvalidRequest));
@@ -317,7 +376,8 @@ fn copy_plain_source<W: Swift>(
         known.Settled result }
     ensures stands { EnsuresIfDone (W.history state.new.store.now)
         (StandsCopy bucket key label.now.moment) result }
-    ensures unrefused { Unrefused result }
+    ensures told { TellsCopied head.etag label.now.moment result }
+    ensures source { CopiesStored (W.history state.old.store.now) from_bucket from_key result }
 {
     let body = get_source_to_copy(alloc, state, from_bucket, from_key, &head)?;
     put_copy(alloc, state, bucket, key, replaced, head, body, label)
@@ -348,7 +408,7 @@ fn put_copy<W: Swift>(
         known.Settled result }
     ensures stands { EnsuresIfDone (W.history state.new.store.now)
         (StandsCopy bucket key label.now.moment) result }
-    ensures unrefused { Unrefused result }
+    ensures told { TellsCopied head.etag label.now.moment result }
 {
     let etag = head.etag;
     let content = content_of(replaced, head.content_type, head.meta);

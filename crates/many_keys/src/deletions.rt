@@ -12,6 +12,7 @@ ghost use Rattle.account_calls.specs.Refusals.{Stops};
 ghost use Rattle.account_calls.specs.Shows.{alone};
 ghost use Rattle.account_calls.specs.Plan.{Plans};
 ghost use Rattle.many_keys.specs.Deletions.{Deletes};
+ghost use Rattle.many_keys.specs.Replies.{AnswersMany};
 
 use account_calls::{PlanFault, Settled, delete_object, head_bucket};
 use gate_base::{Bytes, Copying, List};
@@ -35,6 +36,7 @@ pub(crate) fn delete_objects<W: Swift>(
         (W.history state.new.store.now) state.old.settings.now (Given Any)
         (DeleteObjects bucket.now keys quiet) label known.Settled result }
     ensures stops { Stops alone 0 (W.history state.old.store.now) (W.history state.new.store.now) result }
+    ensures kind { AnswersMany result }
 {
     let Some(list) = head_bucket(state, bucket)? else {
         return Ok(Reply::Refused(Code::NoSuchBucket));

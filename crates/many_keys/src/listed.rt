@@ -18,12 +18,12 @@ ghost use Rattle.account_calls.specs.Answers.{listed_by, records_of, segments_of
 ghost use Rattle.account_calls.specs.Calls.{always, by_account, Changes, Given, GivenOf};
 ghost use Rattle.account_calls.specs.Lent.{Stays};
 ghost use Rattle.account_calls.specs.Plan.{Plans};
-ghost use Rattle.account_calls.specs.Refusals.{Unrefused};
 ghost use Rattle.account_calls.specs.Puts.{EnsuresIfDone, Stands, StandsIn};
 ghost use Rattle.account_calls.specs.Sealed.{put_object_of};
 ghost use Rattle.account_calls.specs.declared.state.Known.TheVariants as known;
-ghost use Rattle.many_keys.specs.Copies.{IsFoundSource, IsProperHead, StandsCopy};
+ghost use Rattle.many_keys.specs.Copies.{IsFoundSource, IsProperHead, TellsCopied};
 ghost use Rattle.many_keys.specs.CopiedLists.{CopiesObject, HasCopy, HasCut, IsCopy, MayFillCut, MayPut, sealed_copy, is_cut};
+ghost use Rattle.many_keys.specs.OwnSegments.{HasOwnSegments, LeavesOutside, PutsWithSubs, StandsCopy};
 
 use crate::copies::end_copy_object_plan;
 use crate::cut::Cut;
@@ -78,7 +78,7 @@ pub(crate) fn copy_source_of_parts<W: Swift>(
         (CopyObject bucket key acl from_bucket from_key replaced no_conditions) label.now known.Settled result }
     ensures stands { EnsuresIfDone (W.history state.new.store.now)
         (StandsCopy bucket key label.now.moment) result }
-    ensures unrefused { Unrefused result }
+    ensures told { TellsCopied head.etag label.now.moment result }
 {
     if head.size == 0 {
         return copy_empty_source(alloc, state, bucket, key, replaced, head, label);
@@ -124,7 +124,7 @@ fn copy_empty_source<W: Swift>(
         (CopyObject bucket key acl from_bucket from_key replaced no_conditions) label.now known.Settled result }
     ensures stands { EnsuresIfDone (W.history state.new.store.now)
         (StandsCopy bucket key label.now.moment) result }
-    ensures unrefused { Unrefused result }
+    ensures told { TellsCopied head.etag label.now.moment result }
 {
     law_unused_is_abandoned();
     let id = free_id(alloc, state, &bucket, label.draw)?;
@@ -166,7 +166,7 @@ fn copy_source_by_pieces<W: Swift>(
         (CopyObject bucket key acl from_bucket from_key replaced no_conditions) label.now known.Settled result }
     ensures stands { EnsuresIfDone (W.history state.new.store.now)
         (StandsCopy bucket key label.now.moment) result }
-    ensures unrefused { Unrefused result }
+    ensures told { TellsCopied head.etag label.now.moment result }
 {
     law_unused_is_abandoned();
     let id = free_id(alloc, state, &bucket, label.draw)?;
@@ -185,7 +185,8 @@ fn copy_source_by_pieces<W: Swift>(
     )
 }
 
-/// The rest of it, under an id that is free.
+/// The rest of it, under an id that is free. A copy that was put lists segments which were put for it, over every observable store,
+/// consistent or not.
 fn copy_under<W: Swift>(
     alloc: Global,
     state: &mut Settled<'_, W>,
@@ -216,7 +217,9 @@ fn copy_under<W: Swift>(
         result }
     ensures stands { EnsuresIfDone (W.history state.new.store.now)
         (StandsCopy bucket key label.now.moment) result }
-    ensures unrefused { Unrefused result }
+    ensures told { TellsCopied head.etag label.now.moment result }
+    ensures own { EnsuresIfDone (W.history state.new.store.now)
+        (HasOwnSegments bucket key id cut.now.pieces label.now.moment) result }
 {
     let parts = copy_source_segments(
         alloc,
@@ -254,7 +257,8 @@ fn put_copy_of_parts<W: Swift>(
         known.Settled result }
     ensures stands { EnsuresIfDone (W.history state.new.store.now)
         (λ tree. StandsIn tree (put_object_of sealed.now)) result }
-    ensures unrefused { Unrefused result }
+    ensures told { TellsCopied sealed.now.etag sealed.now.moment result }
+    ensures own { PutsWithSubs sealed.now (W.history state.old.store.now) (W.history state.new.store.now) result }
 {
     put_copied_sub_manifests(alloc, state, sealed)?;
     put_listed_copy(alloc, state, sealed)
@@ -311,7 +315,8 @@ fn put_listed_copy<W: Swift>(
         known.Settled result }
     ensures stands { EnsuresIfDone (W.history state.new.store.now)
         (λ tree. StandsIn tree (put_object_of sealed.now)) result }
-    ensures unrefused { Unrefused result }
+    ensures told { TellsCopied sealed.now.etag sealed.now.moment result }
+    ensures leaves { LeavesOutside sealed.now.bucket (W.history state.old.store.now) (W.history state.new.store.now) }
 {
     let etag = sealed.etag.copy()?;
     end_copy_object_plan(put_copy_file(alloc, state, sealed), etag, sealed.moment)
@@ -335,6 +340,7 @@ fn put_copy_file<W: Swift>(
         (CopiesObject sealed.now.bucket sealed.now.key from_bucket from_key replaced
         sealed.now.moment) result }
     ensures stands { Stands (W.history state.new.store.now) (put_object_of sealed.now) result }
+    ensures leaves { LeavesOutside sealed.now.bucket (W.history state.old.store.now) (W.history state.new.store.now) }
 {
     let request = copy_file_request(alloc, sealed)?;
     let etag = etag_of_put(&request);

@@ -9,7 +9,8 @@ ghost use Rattle.account_calls.specs.Lent.{Stays};
 ghost use Rattle.account_calls.specs.Plan.{Plans, Answered};
 ghost use Rattle.account_calls.specs.Refusals.{shows, Stops};
 ghost use Rattle.account_calls.specs.Puts.{EnsuresIfDone, IfDone};
-ghost use Rattle.many_keys.specs.CopiedPart.{CopyStands};
+ghost use Rattle.many_keys.specs.CopiedPart.{CopyStands, IsOfSource, OfCopiedSource};
+ghost use Rattle.many_keys.specs.Replies.{AnswersMany, is_many_reply};
 
 use crate::copied_part::plan_upload_part_copy;
 use crate::copies::copy_object;
@@ -37,6 +38,14 @@ pub fn answer<W: Swift>(alloc: Global, state: &mut Settled<'_, W>, op: Op, label
         (W.history state.old.store.now) (W.history state.new.store.now) state.old.settings.now op
         label.now known.Settled result }
 
+    // Over every store the reply is one to a deletion or a copy, and so none that gives bytes of an object.
+    ensures kind { is_many_reply result ≡ true }
+
+    // What was copied whole, of an object in one piece, was copied of a file with the ETag that is replied, over every observable store,
+    // consistent or not.
+    ensures source { IsTrue (W.history state.old.store.now).observable
+        → IsOfSource op (present (W.history state.old.store.now)) result }
+
     // What was copied stands, over every observable store, consistent or not.
     ensures stands { IsTrue (W.history state.new.store.now).observable
         → IfDone result (CopyStands op label.now (present (W.history state.new.store.now))) }
@@ -62,6 +71,8 @@ fn plan<W: Swift>(
         (Given Any) op.old label.now known.Settled result }
     ensures stands { EnsuresIfDone (W.history state.new.store.now) (CopyStands op.old label.now) result }
     ensures stops { Stops (shows op.old) 0 (W.history state.old.store.now) (W.history state.new.store.now) result }
+    ensures kind { AnswersMany result }
+    ensures source { OfCopiedSource op.old (W.history state.old.store.now) result }
 {
     match op {
         Op::DeleteObjects {

@@ -1,5 +1,5 @@
 //! The copy of the segments of an object, one after another.
-ghost use Rattle.std.specs.Prelude.{◌≡◌, ◌≢◌, ◌≤◌, ◌<◌, ◌*◌, true, length, IfOk, Err};
+ghost use Rattle.std.specs.Prelude.{◌≡◌, ◌≢◌, ◌≤◌, ◌<◌, ◌*◌, true, IsTrue, length, IfOk, Err};
 ghost use Rattle.gate_base.specs.Told.{moment_limit};
 ghost use Rattle.s3_names.specs.Bucket.{is_bucket};
 ghost use Rattle.s3_machine.specs.ETag.{body_etag};
@@ -14,6 +14,9 @@ ghost use Rattle.account_calls.specs.Puts.{Stands};
 ghost use Rattle.upload_calls.specs.Interpret.{put_part_of};
 ghost use Rattle.account_calls.specs.declared.fault.PlanFault.TheVariants as fault;
 ghost use Rattle.many_keys.specs.CopiedLists.{AreOfCut, CopiesFirst, CopiesPiece, HasPiece, IsUnnamed, MayCopy, MayCopyPiece, PutsSegment, TellsPiece, is_cut, piece_due, piece_in, size_of_cut, told_due};
+ghost use Rattle.many_keys.specs.OwnSegments.{PutsOwn, StandSegments};
+ghost use Rattle.account_calls.specs.Told.{LeavesAccount};
+ghost use Rattle.swift_calls.specs.History.{present};
 
 use crate::cut::Piece;
 use account_calls::{PlanFault, Settled, interpret_put_with_etag};
@@ -28,7 +31,8 @@ use upload_texts::SealedPart;
 /// Copies the segments of a source, which are the pieces of this cut, under an id that nothing names, each by GET of its file and PUT of
 /// it as the part of the same number (Object Storage API v1, "Get object content and metadata" and "Create or replace object"). At
 /// most two calls for each, and the S3 state stays. What is told are the parts that were put. The faults are those of the calls;
-/// Inconsistent also where a file has another size, and never over an observable consistent account on which the files are there.
+/// Inconsistent also where a file has another size, and never over an observable consistent account on which the files are there. After Ok
+/// the file of each of these parts stands as it was put, over every observable store, consistent or not.
 pub(crate) fn copy_source_segments<W: Swift>(
     alloc: Global,
     state: &mut Settled<'_, W>,
@@ -48,6 +52,8 @@ pub(crate) fn copy_source_segments<W: Swift>(
     ensures asks { Asks (always (2 * length cut.now)) (W.history state.old.store.now) (W.history state.new.store.now)
         (GivenOf (MayCopy bucket.now id from_bucket.now from_id cut.now))
         (CopiesFirst bucket.now id from_bucket.now from_id cut.now moment) result }
+    ensures own { IsTrue (W.history state.new.store.now).observable
+        → IfOk result (λ list. StandSegments bucket.now id moment list (present (W.history state.new.store.now))) }
 {
     let mut list = List::new(alloc);
     for piece in cut {
@@ -88,6 +94,8 @@ fn copy_piece<W: Swift>(
     ensures asks { Asks (always 2) (W.history state.old.store.now) (W.history state.new.store.now)
         (GivenOf (MayCopyPiece bucket.now id from_bucket.now from_id piece))
         (CopiesPiece bucket.now id from_bucket.now from_id piece moment) result }
+    ensures own { PutsOwn bucket.now id piece.number moment (W.history state.old.store.now)
+        (W.history state.new.store.now) result }
 {
     let bytes = get_piece_to_copy(alloc, state, from_bucket, from_id, piece)?;
     put_copied_segment(alloc, state, bucket, id, piece.number, bytes, moment)
@@ -107,6 +115,7 @@ fn get_piece_to_copy<W: Swift>(
     ensures sized { IfOk result (λ bytes. length bytes ≡ piece.size) }
     ensures asks { Asks (always 1) (W.history state.old.store.now) (W.history state.new.store.now)
         (GivenOf (HasPiece bucket.now id piece)) (TellsOf (TellsPiece bucket.now id piece)) result }
+    ensures leaves { LeavesAccount (W.history state.old.store.now) (W.history state.new.store.now) }
 {
     let container = segments_container(alloc, bucket.as_slice())?;
     let name = segment_name(alloc, id, piece.number)?;
@@ -161,6 +170,8 @@ fn put_copied_segment<W: Swift>(
         (GivenOf (IsUnnamed bucket.now id)) (PutsSegment bucket.now id number body moment) result }
     ensures stands { Stands (W.history state.new.store.now)
         (put_part_of bucket.now id number body moment) result }
+    ensures own { PutsOwn bucket.now id number moment (W.history state.old.store.now) (W.history state.new.store.now)
+        result }
 {
     let etag = body_etag(body.as_slice());
     let part = SealedPart {
@@ -196,6 +207,8 @@ fn put_copied_segment_file<W: Swift>(
         result }
     ensures stands { Stands (W.history state.new.store.now)
         (put_part_of bucket.now id part.number body moment) result }
+    ensures own { PutsOwn bucket.now id part.number moment (W.history state.old.store.now)
+        (W.history state.new.store.now) result }
 {
     law_orphan_put();
     let request = part_request(alloc, bucket, id, part.number, body, etag, moment)?;

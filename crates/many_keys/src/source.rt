@@ -5,8 +5,9 @@ ghost use Rattle.upload_records.specs.Native.{IsSettled};
 ghost use Rattle.account_calls.specs.Calls.{always, Asks, Given, Tells, TellsBytes, TellsObject};
 ghost use Rattle.account_calls.specs.Interpret.{IsShownHead};
 ghost use Rattle.account_calls.specs.Lent.{Stays};
+ghost use Rattle.account_calls.specs.Told.{LeavesAccount};
 ghost use Rattle.s3_machine.specs.Limits.{is_content_type, is_proper_meta};
-ghost use Rattle.many_keys.specs.Copies.{IsProperHead, body_due, content_of, is_head_to_copy, is_body_to_copy, proper_due};
+ghost use Rattle.many_keys.specs.Copies.{IsProperHead, OfStored, body_due, content_of, is_head_to_copy, is_body_to_copy, proper_due};
 
 use account_calls::{PlanFault, Settled, get_object, head_object};
 use gate_base::Bytes;
@@ -30,6 +31,7 @@ pub(crate) fn head_source<W: Swift>(
     ensures asks { Asks (always 1) (W.history state.old.store.now) (W.history state.new.store.now)
         IsSettled (Tells (TellsObject bucket.now key.now)) result }
     ensures proper { IfOk result (λ told. IfSome told IsProperHead) }
+    ensures leaves { LeavesAccount (W.history state.old.store.now) (W.history state.new.store.now) }
 {
     law_object_proper();
     let told = head_object(alloc, state, bucket, key)?;
@@ -79,6 +81,8 @@ pub(crate) fn get_source_to_copy<W: Swift>(
         (Given (λ s. TellsObject bucket key s (Some head.now)))
         (Tells (λ s body. TellsBytes bucket key None s (Some body))) result }
     ensures body { IfOk result (λ body. is_body_to_copy head.now body ≡ true) }
+    ensures unchanged { OfStored (W.history state.old.store.now) bucket key head.now.etag head.now.size
+        result }
 {
     law_object_proper();
     let told = get_object(

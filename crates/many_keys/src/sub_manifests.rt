@@ -1,5 +1,5 @@
 //! The sub-manifests of a copy, which are put after its parts and before its file.
-ghost use Rattle.std.specs.Prelude.{◌≡◌, ◌<◌, ◌+◌, true};
+ghost use Rattle.std.specs.Prelude.{◌≡◌, ◌<◌, ◌+◌, true, IsTrue};
 ghost use Rattle.upload_texts.specs.Sealed.{has_sealed_text};
 ghost use Rattle.upload_records.specs.Native.{sealed_segments, sealed_sub_manifests};
 ghost use Rattle.account_calls.specs.Calls.{always, Asks, GivenOf};
@@ -7,6 +7,10 @@ ghost use Rattle.account_calls.specs.Lent.{Stays};
 ghost use Rattle.account_calls.specs.Puts.{Stands};
 ghost use Rattle.account_calls.specs.Sealed.{put_sub_of};
 ghost use Rattle.many_keys.specs.CopiedLists.{HasCopied, IsCopy, LeavesCopied};
+ghost use Rattle.many_keys.specs.OwnSegments.{KeepsAllBut, PutsSubs};
+ghost use Rattle.s3_names.specs.Id.{id_digits};
+ghost use Rattle.swift_calls.specs.History.{present};
+ghost use Rattle.upload_records.specs.Layout.{segments_name, sub_manifest_name};
 
 use account_calls::{
     PlanFault, Settled, etag_of_put, interpret_put_with_etag, sealed_segments, sub_manifest_count,
@@ -32,6 +36,8 @@ pub(crate) fn put_copied_sub_manifests<W: Swift>(
     ensures asks { Asks (always (sealed_sub_manifests sealed.now)) (W.history state.old.store.now)
         (W.history state.new.store.now) (GivenOf (HasCopied sealed.now 0))
         (LeavesCopied sealed.now (sealed_sub_manifests sealed.now)) result }
+    ensures own { PutsSubs sealed.now (sealed_sub_manifests sealed.now) (W.history state.old.store.now)
+        (W.history state.new.store.now) result }
 {
     let segments = sealed_segments(alloc, sealed)?;
     put_copied_sub_manifests_of(alloc, state, sealed, segments.as_slice())
@@ -51,6 +57,8 @@ fn put_copied_sub_manifests_of<W: Swift>(
     ensures asks { Asks (always (sealed_sub_manifests sealed.now)) (W.history state.old.store.now)
         (W.history state.new.store.now) (GivenOf (HasCopied sealed.now 0))
         (LeavesCopied sealed.now (sealed_sub_manifests sealed.now)) result }
+    ensures own { PutsSubs sealed.now (sealed_sub_manifests sealed.now) (W.history state.old.store.now)
+        (W.history state.new.store.now) result }
 {
     let count = sub_manifest_count(segments.len());
     for n in 0..count {
@@ -76,6 +84,9 @@ fn put_copied_sub_manifest<W: Swift>(
     ensures asks { Asks (always 1) (W.history state.old.store.now) (W.history state.new.store.now)
         (GivenOf (HasCopied sealed.now n)) (LeavesCopied sealed.now (n + 1)) result }
     ensures stands { Stands (W.history state.new.store.now) (put_sub_of sealed.now n) result }
+    ensures keeps { IsTrue (W.history state.old.store.now).observable
+        → KeepsAllBut (segments_name sealed.now.bucket) (sub_manifest_name (id_digits sealed.now.id) (n + 1))
+        (present (W.history state.old.store.now)) (present (W.history state.new.store.now)) }
 {
     law_orphan_listed();
     let request = sub_manifest_request(alloc, sealed, segments, n)?;

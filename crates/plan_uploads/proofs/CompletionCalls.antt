@@ -27,7 +27,7 @@ use Rattle.account_calls.proofs.lemmas.Faults.{err_is}
 use Rattle.account_calls.proofs.lemmas.Idle.{grows_none, none_made}
 use Rattle.upload_calls.proofs.lemmas.Asking.{asked_in_vain, asked_reply}
 use Rattle.plan_uploads.specs.declared.complete.Completing.{Completing}
-use Rattle.plan_uploads.specs.Completing.{MayComplete, answered_by, end_in, known_in}
+use Rattle.plan_uploads.specs.Completing.{MayComplete, answered_by, end_in, known_after_completion, known_in}
 
 -- without a call it is known that the account is consistent
 abbrev Sound : SwiftAccount → Unit {0} → Type 0
@@ -49,9 +49,9 @@ module _ {settings : Settings} {given : SwiftAccount → Type 0} {op : Op} {labe
   -- it is refused
   pub refused_at_once : IsWider (always 0) most → (h : History) (code : Code) → IsOwnReply (Refused code)
       → ((tree : SwiftAccount) → IsConsistent tree → given tree → S3Step settings (s3_state tree) op label (Refused code) (s3_state tree))
-      → (completing : Completing) → completing ≡ answered_by (Refused code) → Plans most h h settings (GivenOf given) op label completing.known completing.end
+      → (completing : Completing) → completing ≡ answered_by (Refused code) → Plans most h h settings (GivenOf given) op label (known_after_completion completing.unfinished) completing.end
   refused_at_once within h code own step completing is =
-      subst (λ k. Plans most h h settings (GivenOf given) op label k.known k.end) (sym is)
+      subst (λ k. Plans most h h settings (GivenOf given) op label (known_after_completion k.unfinished) k.end) (sym is)
       (asked_reply (always 0) within (λ tree has. has) tt refl (Refused code) (sound_here given h) own (λ tree sound has told. step tree sound has.is))
 
   -- calls told nothing, and their fault is handed on

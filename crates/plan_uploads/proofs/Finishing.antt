@@ -32,7 +32,7 @@ use Rattle.account_calls.proofs.lemmas.Ends.{met_within}
 use Rattle.account_calls.proofs.lemmas.Idle.{goes_trans}
 use Rattle.account_calls.proofs.lemmas.Puts.{done_so}
 use Rattle.recovery.specs.Rolls.{HoldsOrFinished, IsFinished, IsSealed, Leaves, LeavesClear}
-use Rattle.plan_uploads.specs.Completing.{CompletesBy, EndsQuietly, MaySeal, Seals, StandsAs, end_complete_upload_sealed, finishes}
+use Rattle.plan_uploads.specs.Completing.{CompletesBy, EndsQuietly, MaySeal, Seals, StandsAs, end_complete_upload_sealed, finishes, known_after_completion}
 use Rattle.plan_uploads.specs.declared.complete.Completing.{Completing}
 use Rattle.plan_uploads.proofs.Behind.{commits_agree}
 
@@ -149,7 +149,7 @@ module _ (settings : Settings) (s : Sealed) (text : List ℕ) (list : List Liste
     own_by (Err Memory) = completed_is_own s
     own_by (Err Inconsistent) = tt
 
-    knows_by : (finished : Result (Unit {0}) PlanFault) → (finished ≡ Ok tt → IsSettled (present c)) → IsKnown (end_complete_upload_sealed finished (completes s)).known (present c)
+    knows_by : (finished : Result (Unit {0}) PlanFault) → (finished ≡ Ok tt → IsSettled (present c)) → IsKnown (known_after_completion (end_complete_upload_sealed finished (completes s)).unfinished) (present c)
     knows_by (Ok done) settled = λ is. settled refl
     knows_by (Err Failed) settled = λ is. absurd (let no : Unsure ≡ Settled = is in cc)
     knows_by (Err Memory) settled = λ is. absurd (let no : Unsure ≡ Settled = is in cc)
@@ -176,7 +176,7 @@ module _ (settings : Settings) (s : Sealed) (text : List ℕ) (list : List Liste
 
     -- they amount to the operation
     amounts : Plans (always (4 + sealed_sub_manifests s)) a c settings (GivenOf (CompletesBy settings text list label s)) (asked s text list) label
-        (end_complete_upload_sealed finished (completes s)).known (end_complete_upload_sealed finished (completes s)).end
+        (known_after_completion (end_complete_upload_sealed finished (completes s)).unfinished) (end_complete_upload_sealed finished (completes s)).end
     amounts = record {
       grows = record { on = goes_trans seals.grows.on asks.grows.on; calls = let near = seals.grows.calls in let far = asks.grows.calls in omega (arith, near, far) };
       cause = cause_by finished asks.cause;
@@ -193,9 +193,9 @@ module _ (settings : Settings) (s : Sealed) (text : List ℕ) (list : List Liste
 
     -- what is handed on of them is their end
     pub finished_then : (completing : Completing) (reply : Reply) → completing ≡ end_complete_upload_sealed finished reply → reply ≡ completes s
-        → Plans (always (4 + sealed_sub_manifests s)) a c settings (GivenOf (CompletesBy settings text list label s)) (asked s text list) label completing.known completing.end
+        → Plans (always (4 + sealed_sub_manifests s)) a c settings (GivenOf (CompletesBy settings text list label s)) (asked s text list) label (known_after_completion completing.unfinished) completing.end
     finished_then completing reply is same =
-        subst (λ (x : Completing). Plans (always (4 + sealed_sub_manifests s)) a c settings (GivenOf (CompletesBy settings text list label s)) (asked s text list) label x.known x.end) (sym (is ∙ ap (end_complete_upload_sealed finished) same)) amounts
+        subst (λ (x : Completing). Plans (always (4 + sealed_sub_manifests s)) a c settings (GivenOf (CompletesBy settings text list label s)) (asked s text list) label (known_after_completion x.unfinished) x.end) (sym (is ∙ ap (end_complete_upload_sealed finished) same)) amounts
 
 -- ---- the last call
 
@@ -231,7 +231,7 @@ held_or_finished s middle new sealed (inl same) = inl (seal_holds middle new sam
 held_or_finished s middle new sealed (inr done) = inr done
 
 stands_end : (s : Sealed) (h : History) (finished : Result (Unit {0}) PlanFault) (reply : Reply) → Ensures h (IsFinished s) finished → (IsTrue h.observable → (seal_of (present h) ≡ Some s) ⊎ IsFinished s (present h))
-    → EnsuresIfDone h (StandsAs (end_complete_upload_sealed finished reply).known s) (end_complete_upload_sealed finished reply).end
+    → EnsuresIfDone h (StandsAs (known_after_completion (end_complete_upload_sealed finished reply).unfinished) s) (end_complete_upload_sealed finished reply).end
 stands_end s h (Ok done) reply finishes either = record { so = λ observable. done_so reply (finishes.so observable) }
 stands_end s h (Err Failed) reply finishes either = record { so = λ observable. done_so reply (either observable) }
 stands_end s h (Err Memory) reply finishes either = record { so = λ observable. done_so reply (either observable) }
@@ -239,8 +239,8 @@ stands_end s h (Err Inconsistent) reply finishes either = record { so = λ obser
 
 pub stands_then : {s : Sealed} {b c : History} {finished : Result (Unit {0}) PlanFault} (reply : Reply) (completing : Completing) → completing ≡ end_complete_upload_sealed finished reply
     → Asks (always (3 + sealed_sub_manifests s)) b c (IsSealed s) (Leaves IsSettled) finished → Ensures c (IsFinished s) finished → (IsTrue b.observable → seal_of (present b) ≡ Some s) → HoldsOrFinished s b c
-    → EnsuresIfDone c (StandsAs completing.known s) completing.end
+    → EnsuresIfDone c (StandsAs (known_after_completion completing.unfinished) s) completing.end
 stands_then {s = s} {b = b} {c = c} {finished = finished} reply completing is asks ends sealed rolls =
     let told = asks.grows.on.told in
-    subst (λ (x : Completing). EnsuresIfDone c (StandsAs x.known s) x.end) (sym is)
+    subst (λ (x : Completing). EnsuresIfDone c (StandsAs (known_after_completion x.unfinished) s) x.end) (sym is)
     (stands_end s c finished reply ends (λ observable. held_or_finished s (present b) (present c) (sealed (told observable)) (rolls (told observable))))

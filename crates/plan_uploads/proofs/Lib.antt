@@ -17,5 +17,6 @@ pub mod SealedTexts
 pub mod Searched
 pub mod Steps
 pub mod Stopping
+pub mod Unfinished
 pub mod UploadRows
 pub mod UploadsListed

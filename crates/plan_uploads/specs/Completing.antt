@@ -4,19 +4,21 @@ use Rattle.std.specs.Prelude.{◌≡◌, ◌⊎◌, ◌≤◌, ◌+◌, ℕ, Boo
 use Rattle.std.specs.Cmp.Lexicographic.{pointwise}
 use Rattle.std.specs.FinMap.{from_entries, get, is_sorted}
 use Rattle.std.specs.Ordering.{nat_cmp}
+use Rattle.gate_base.specs.Causes.{Rose}
 use Rattle.gate_base.specs.Maps.{Numbers}
 use Rattle.gate_base.specs.declared.page.Pair.{Pair}
 use Rattle.s3_names.specs.Id.{id_digits}
 use Rattle.s3_machine.specs.Finish.{finished}
 use Rattle.s3_machine.specs.State.{State}
 use Rattle.s3_machine.specs.Uploads.{etag_listed, kept_as, same_listed, upload_etag}
+use Rattle.s3_machine.specs.declared.code.Code.TheVariants.{InconsistentStore}
 use Rattle.s3_machine.specs.declared.items.PartItem.{PartItem}
 use Rattle.s3_machine.specs.declared.operation.Listed.{Listed}
 use Rattle.s3_machine.specs.Step.{S3Step}
 use Rattle.s3_machine.specs.declared.operation.Label.{Label}
 use Rattle.s3_machine.specs.declared.operation.Op.TheVariants.{CompleteUpload}
 use Rattle.s3_machine.specs.declared.operation.Reply.{Reply}
-use Rattle.s3_machine.specs.declared.operation.Reply.TheVariants.{Completed}
+use Rattle.s3_machine.specs.declared.operation.Reply.TheVariants.{Completed, Refused}
 use Rattle.s3_machine.specs.declared.operation.Settings.{Settings}
 use Rattle.swift_calls.specs.Account.{SwiftAccount, files}
 use Rattle.swift_calls.specs.History.{History, present}
@@ -195,32 +197,49 @@ completion_of bucket key opened chosen list moment = record {
 
 -- a completion that is refused, or was done before
 abbrev pub answered_by : Reply → Completing
-answered_by reply = record { end = Ok reply; known = known.Settled }
+answered_by reply = record { end = Ok reply; unfinished = None }
 
 abbrev pub end_in : Result Completing PlanFault → Result Reply PlanFault
 end_in (Ok completing) = completing.end
 end_in (Err fault) = Err fault
 
--- what is known of the store then: before the call that seals nothing is sealed
+-- by which fault the calls from the one that seals on broke off: none did before it
+abbrev pub unfinished_in : Result Completing PlanFault → Option PlanFault
+unfinished_in (Ok completing) = completing.unfinished
+unfinished_in (Err fault) = None
+
+-- what is known of the store then: where they didn't break off, nothing is sealed
+abbrev pub known_after_completion : Option PlanFault → Known
+known_after_completion None = known.Settled
+known_after_completion (Some fault) = known.Unsure
+
 abbrev pub known_in : Result Completing PlanFault → Known
-known_in (Ok completing) = completing.known
-known_in (Err fault) = known.Settled
+known_in result = known_after_completion (unfinished_in result)
 
 -- it isn't refused, or for a reason that the parts of the upload show
 abbrev pub ShownByParts : Result Reply PlanFault → Type 0
 ShownByParts end = IfOk end (λ reply. shown_by alone reply ≡ None)
 
--- one may be sealed still only where it was done, or where it broke off
-abbrev pub LeavesUnsureOnly : Result Completing PlanFault → Type 0
-LeavesUnsureOnly result = known_in result ≡ known.Unsure → may_be_sealed (reply_of (end_in result)) ≡ true
+-- what such a fault says, by the counts of faults before the calls and after them, over every store: one failed; or memory ran out, and
+-- none failed; or the store was found inconsistent, as the reply says too, and none failed
+abbrev pub BrokeOff : Option PlanFault → ℕ → ℕ → Reply → Type 0
+BrokeOff None before now reply = Unit {0}
+BrokeOff (Some Failed) before now reply = Rose before now
+BrokeOff (Some Memory) before now reply = now ≡ before
+BrokeOff (Some Inconsistent) before now reply = (now ≡ before) × (reply ≡ Refused InconsistentStore)
+
+-- one may be sealed still only where it was done, or where it broke off, and by such a fault
+pub record BreaksOff (old new : History) (result : Result Completing PlanFault) : Type 0 where
+  pub only : known_in result ≡ known.Unsure → may_be_sealed (reply_of (end_in result)) ≡ true
+  pub by : BrokeOff (unfinished_in result) old.faults new.faults (reply_of (end_in result))
 
 -- the end behind the call that seals. That the store failed there, or that memory ran out, is no failure of the operation, and a
 -- completion may be sealed still
 abbrev pub end_complete_upload_sealed : Result (Unit {0}) PlanFault → Reply → Completing
-end_complete_upload_sealed (Ok done) reply = record { end = Ok reply; known = known.Settled }
-end_complete_upload_sealed (Err Failed) reply = record { end = Ok reply; known = known.Unsure }
-end_complete_upload_sealed (Err Memory) reply = record { end = Ok reply; known = known.Unsure }
-end_complete_upload_sealed (Err Inconsistent) reply = record { end = Err Inconsistent; known = known.Unsure }
+end_complete_upload_sealed (Ok done) reply = record { end = Ok reply; unfinished = None }
+end_complete_upload_sealed (Err Failed) reply = record { end = Ok reply; unfinished = Some Failed }
+end_complete_upload_sealed (Err Memory) reply = record { end = Ok reply; unfinished = Some Memory }
+end_complete_upload_sealed (Err Inconsistent) reply = record { end = Err Inconsistent; unfinished = Some Inconsistent }
 
 -- no call between two numbers failed, or the last one did and none before it
 abbrev pub EndsQuietly : History → ℕ → ℕ → Type 0

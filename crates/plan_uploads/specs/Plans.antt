@@ -1,6 +1,6 @@
 -- What is given of an upload that is created, what a plan leaves beside the state, and the replies by what the last calls told.
 -- Source: this profile.
-use Rattle.std.specs.Prelude.{ℕ, Bool, List, Some, Result, Ok, Err}
+use Rattle.std.specs.Prelude.{◌≡◌, ℕ, Bool, List, Some, Result, Ok, Err}
 use Rattle.gate_base.specs.declared.page.Pair.{Pair}
 use Rattle.s3_names.specs.declared.acl.Acl.{Acl}
 use Rattle.s3_names.specs.Id.{id_digits}
@@ -22,7 +22,8 @@ use Rattle.account_calls.specs.Calls.{Met, TellsBucket}
 use Rattle.account_calls.specs.Plan.{reply_of}
 use Rattle.account_calls.specs.declared.state.Known.{Known}
 use Rattle.upload_calls.specs.Records.{StandsOpen, StandsPart}
-use Rattle.plan_uploads.specs.Completing.{ToldOrStands}
+use Rattle.plan_uploads.specs.Completing.{BrokeOff, ToldOrStands, known_after_completion}
+use Rattle.plan_uploads.specs.declared.operation.Replied.{Replied}
 
 -- ---- an upload that is created
 
@@ -38,6 +39,13 @@ pub record MayStart (bucket : List ℕ) (acl : Acl) (draw id : ℕ) (tree : Swif
 -- the calls of a plan, or of the rest of one, leave the account so, where this is given of the account that they begin on
 pub record LeavesBeside (what : Beside) (label : Label) (old new : History) (given : SwiftAccount → Type 0) (end : Result Reply PlanFault) : Type 0 where
   pub says : Met given old → SaysBeside what label new old.called new.called (reply_of end)
+
+-- ---- why it is unsure whether a completion is sealed
+
+-- over every store, after an operation on uploads it is unsure only by the fault by which the calls of a completion broke off
+pub record UnsureBy (old new : History) (replied : Replied) : Type 0 where
+  pub known : replied.known ≡ known_after_completion replied.unfinished
+  pub by : BrokeOff replied.unfinished old.faults new.faults replied.reply
 
 -- ---- the replies
 

@@ -17,12 +17,12 @@ ghost use Rattle.account_calls.specs.Refusals.{Stops, Unrefused};
 ghost use Rattle.account_calls.specs.Shows.{alone};
 ghost use Rattle.account_calls.specs.Plan.{Plans};
 ghost use Rattle.account_calls.specs.Puts.{EnsuresIfDone};
-ghost use Rattle.plan_uploads.specs.Completing.{Ascend, HasParts, IsOpenAs, LeavesUnsureOnly, MayComplete, ShownByParts, StandsAs, StandsCompleted, ToldOrStands, answered_by, by_number, completion_of, end_in, known_in, listed_parts};
+ghost use Rattle.plan_uploads.specs.Completing.{Ascend, BreaksOff, HasParts, IsOpenAs, MayComplete, ShownByParts, StandsAs, StandsCompleted, ToldOrStands, answered_by, by_number, completion_of, end_in, known_in, listed_parts};
 
 use crate::chosen::{chosen_parts, has_small_chosen_part};
 use crate::completed::{Opened, ToComplete, find_upload_to_complete};
 use crate::seal::seal_and_finish;
-use account_calls::{Known, PlanFault, Settled};
+use account_calls::{PlanFault, Settled};
 use gate_base::{Bytes, Copying, List, Memory, drop};
 use s3_machine::{Code, Label, Listed, MOST_PARTS, PartItem, Reply, rises, upload_etag};
 use std::alloc::Global;
@@ -30,11 +30,12 @@ use swift_calls::Swift;
 use upload_calls::list_parts;
 use upload_texts::{Sealed, SealedPart};
 
-/// How a completion ended: what it is answered, and whether one may be sealed then.
+/// How a completion ended: what it is answered, and the fault by which its calls broke off from the one that seals it on, if they
+/// did. Then it may be sealed still.
 #[derive(Debug, Drop)]
 pub(crate) struct Completing {
     pub(crate) end: Result<Reply, PlanFault>,
-    pub(crate) known: Known,
+    pub(crate) unfinished: Option<PlanFault>,
 }
 
 /// CompleteUpload: HEAD of the bucket's container, GET of the upload's record, the names of its segments page by page, then PUT
@@ -42,7 +43,8 @@ pub(crate) struct Completing {
 /// object and the record and delete what was sealed. Over an observable consistent account at most six calls more than there are
 /// pages of the upload's segments, and one for each sub-manifest. A completion that is kept is answered again after the first two. The faults are those of the calls up to
 /// the one that commits; that the store failed behind it is no failure of the operation. One that was done otherwise stands then, over
-/// every observable store, consistent or not: its object and its record, or else what is sealed.
+/// every observable store, consistent or not: its object and its record, or else what is sealed. That it may be sealed still is
+/// told with the fault by which the calls broke off.
 pub(crate) fn complete_upload<W: Swift>(
     alloc: Global,
     state: &mut Settled<'_, W>,
@@ -63,7 +65,7 @@ pub(crate) fn complete_upload<W: Swift>(
         (W.history state.old.store.now) (W.history state.new.store.now) state.old.settings.now
         (Given Any) (CompleteUpload bucket.now key.now text.now list.now) label.now
         (known_in result) (end_in result) }
-    ensures unsure { LeavesUnsureOnly result }
+    ensures unsure { BreaksOff (W.history state.old.store.now) (W.history state.new.store.now) result }
     ensures stands { EnsuresIfDone (W.history state.new.store.now)
         (ToldOrStands (known_in result) bucket.now key.now list.now label.now.moment
         (W.history state.old.store.now) (W.history state.new.store.now)) (end_in result) }
@@ -83,7 +85,7 @@ fn end_complete_upload_unsealed(reply: Reply) -> Completing
 {
     Completing {
         end: Ok(reply),
-        known: Known::Settled,
+        unfinished: None,
     }
 }
 
@@ -124,7 +126,7 @@ fn complete_open<W: Swift>(
         (GivenOf (IsOpenAs bucket.now key.now text opened))
         (CompleteUpload bucket.now key.now text list.now) label.now (known_in result)
         (end_in result) }
-    ensures unsure { LeavesUnsureOnly result }
+    ensures unsure { BreaksOff (W.history state.old.store.now) (W.history state.new.store.now) result }
     ensures stands { EnsuresIfDone (W.history state.new.store.now)
         (StandsCompleted (known_in result) bucket.now key.now list.now label.now.moment)
         (end_in result) }
@@ -168,7 +170,7 @@ fn complete_by<W: Swift>(
         state.old.settings.now (GivenOf (HasParts bucket.now key.now text opened parts.now))
         (CompleteUpload bucket.now key.now text list.now) label.now (known_in result)
         (end_in result) }
-    ensures unsure { LeavesUnsureOnly result }
+    ensures unsure { BreaksOff (W.history state.old.store.now) (W.history state.new.store.now) result }
     ensures stands { EnsuresIfDone (W.history state.new.store.now)
         (StandsCompleted (known_in result) bucket.now key.now list.now label.now.moment)
         (end_in result) }
@@ -204,7 +206,7 @@ fn complete_chosen<W: Swift>(
         state.old.settings.now (GivenOf (HasParts bucket.now key.now text opened parts))
         (CompleteUpload bucket.now key.now text list.now) label.now (known_in result)
         (end_in result) }
-    ensures unsure { LeavesUnsureOnly result }
+    ensures unsure { BreaksOff (W.history state.old.store.now) (W.history state.new.store.now) result }
     ensures stands { EnsuresIfDone (W.history state.new.store.now)
         (StandsCompleted (known_in result) bucket.now key.now list.now label.now.moment)
         (end_in result) }
@@ -271,7 +273,7 @@ fn complete_sealed<W: Swift>(
         (GivenOf (MayComplete state.old.settings.now text list label sealed.now))
         (CompleteUpload sealed.now.bucket sealed.now.key text list) label (known_in result)
         (end_in result) }
-    ensures unsure { LeavesUnsureOnly result }
+    ensures unsure { BreaksOff (W.history state.old.store.now) (W.history state.new.store.now) result }
     ensures stands { EnsuresIfDone (W.history state.new.store.now)
         (StandsAs (known_in result) sealed.now) (end_in result) }
     ensures unrefused { Unrefused (end_in result) }

@@ -8,9 +8,9 @@ ghost use Rattle.account_calls.specs.Calls.{Any, Given};
 ghost use Rattle.account_calls.specs.Lent.{Stays};
 ghost use Rattle.account_calls.specs.Refusals.{shows, Stops};
 ghost use Rattle.account_calls.specs.Plan.{reply_of, Plans, Answered};
-ghost use Rattle.plan_uploads.specs.Completing.{end_in, known_in};
+ghost use Rattle.plan_uploads.specs.Completing.{end_in, known_after_completion, known_in, unfinished_in};
 ghost use Rattle.account_calls.specs.Puts.{EnsuresIfDone, IfDone};
-ghost use Rattle.plan_uploads.specs.Plans.{LeavesBeside, UploadStands};
+ghost use Rattle.plan_uploads.specs.Plans.{LeavesBeside, UnsureBy, UploadStands};
 
 use crate::abort::abort_upload;
 use crate::complete::{Completing, complete_upload};
@@ -25,11 +25,13 @@ use std::alloc::Global;
 use std::mem::replace;
 use swift_calls::Swift;
 
-/// What an operation is answered, and whether a completion may be sealed then.
+/// What an operation is answered, and whether a completion may be sealed then. It may be only where the calls of a completion broke
+/// off from the one that seals it on: `unfinished` is the fault by which they did.
 #[derive(Debug, Drop)]
 pub struct Replied {
     pub reply: Reply,
     pub known: Known,
+    pub unfinished: Option<PlanFault>,
 }
 
 /// Answers one operation of Amazon S3 on uploads in parts. The reply is the service's own, and then the state is as its step
@@ -38,7 +40,8 @@ pub struct Replied {
 /// states. Or it is InconsistentStore, never over an observable consistent account. How many calls there are is bounded by the
 /// operation, and a refusal stops at the call that shows it. An upload that is created has the first id that is free from the label's word
 /// of chance on; where one was aborted and no call failed, none of its segments is left. A completion is done once it is sealed:
-/// where a later call fails, the reply is the service's own, and it is then unsure whether the completion is sealed still.
+/// where a later call fails, the reply is the service's own, and it is then unsure whether the completion is sealed still. That it is
+/// unsure comes with its cause: the store's count of faults rose in this call, or the reply is InconsistentStore, or memory ran out.
 pub fn answer<W: Swift>(alloc: Global, state: &mut Settled<'_, W>, op: Op, label: &Label) -> Replied
     requires proper { IsProper op label.now }
     requires own { is_upload op ≡ true }
@@ -48,6 +51,9 @@ pub fn answer<W: Swift>(alloc: Global, state: &mut Settled<'_, W>, op: Op, label
     ensures answered { Answered (most_calls op (present (W.history state.old.store.now)))
         (W.history state.old.store.now) (W.history state.new.store.now) state.old.settings.now op
         label.now result.known result.reply }
+
+    // It is unsure for a cause, over every store, whether a completion is sealed.
+    ensures unsure { UnsureBy (W.history state.old.store.now) (W.history state.new.store.now) result }
 
     // What was put stands, over every observable store, consistent or not.
     ensures stands { IsTrue (W.history state.new.store.now).observable
@@ -72,6 +78,7 @@ fn answer_upload_operation<W: Swift>(
     ensures answered { Answered (most_calls op.old (present (W.history state.old.store.now)))
         (W.history state.old.store.now) (W.history state.new.store.now) state.old.settings.now
         op.old label.now result.known result.reply }
+    ensures unsure { UnsureBy (W.history state.old.store.now) (W.history state.new.store.now) result }
     ensures stands { IsTrue (W.history state.new.store.now).observable
         → IfDone result.reply (UploadStands op.old label.now result.known (W.history state.old.store.now)
         (W.history state.new.store.now) (present (W.history state.new.store.now))) }
@@ -86,6 +93,7 @@ fn answer_upload_operation<W: Swift>(
         _ => Replied {
             reply: reply_of(plan(alloc, state, op, label)),
             known: Known::Settled,
+            unfinished: None,
         },
     }
 }
@@ -94,16 +102,29 @@ fn answer_upload_operation<W: Swift>(
 fn completed(end: Result<Completing, PlanFault>) -> Replied
     ensures reply { result.reply ≡ reply_of (end_in end) }
     ensures known { result.known ≡ known_in end }
+    ensures unfinished { result.unfinished ≡ unfinished_in end }
 {
     match end {
         Ok(completing) => Replied {
             reply: reply_of(completing.end),
-            known: completing.known,
+            known: known_after_completion(completing.unfinished),
+            unfinished: completing.unfinished,
         },
         Err(fault) => Replied {
             reply: reply_of(Err(fault)),
             known: Known::Settled,
+            unfinished: None,
         },
+    }
+}
+
+/// What is known of the store after a completion whose calls broke off by this fault, if they did.
+fn known_after_completion(unfinished: Option<PlanFault>) -> Known
+    ensures { result ≡ known_after_completion unfinished }
+{
+    match unfinished {
+        None => Known::Settled,
+        Some(_) => Known::Unsure,
     }
 }
 

@@ -11,10 +11,10 @@ ghost use Rattle.account_calls.specs.Lent.{Stays};
 ghost use Rattle.account_calls.specs.Refusals.{Unrefused};
 ghost use Rattle.account_calls.specs.Plan.{Plans};
 ghost use Rattle.account_calls.specs.Puts.{Ensures, EnsuresIfDone};
-ghost use Rattle.plan_uploads.specs.Completing.{CompletesBy, EndsQuietly, LeavesUnsureOnly, MaySeal, Seals, StandsAs, end_complete_upload_sealed, most_sealed_text, put_sealed_text};
+ghost use Rattle.plan_uploads.specs.Completing.{BreaksOff, CompletesBy, EndsQuietly, MaySeal, Seals, StandsAs, end_complete_upload_sealed, known_after_completion, most_sealed_text, put_sealed_text};
 
 use crate::complete::Completing;
-use account_calls::{Known, PlanFault, Settled, interpret_put_with_etag};
+use account_calls::{PlanFault, Settled, interpret_put_with_etag};
 use gate_base::{Bytes, List, Memory, drop};
 use recovery::roll_forward_held;
 use s3_machine::{Reply, body_etag};
@@ -68,8 +68,8 @@ fn sealed_request(alloc: Global, text: Bytes) -> Result<SwiftRequest, Memory>
 
 /// Seals a completion and finishes it: PUT of what is sealed, which commits, then PUT of each sub-manifest, PUT of the object, PUT
 /// of the record and DELETE of what is sealed. At most four calls, and one for each sub-manifest. The reply is made before: where a call behind the commit fails, or memory runs out there,
-/// the completion is done all the same, and it is then unsure whether it is sealed still. The faults are those of [`seal`], after
-/// which that is unsure too.
+/// the completion is done all the same, and it is then unsure whether it is sealed still; the fault by which that is so is told. The
+/// faults are those of [`seal`], after which that is unsure too.
 pub(crate) fn seal_and_finish<W: Swift>(
     alloc: Global,
     state: &mut Settled<'_, W>,
@@ -84,10 +84,11 @@ pub(crate) fn seal_and_finish<W: Swift>(
         (W.history state.new.store.now)
         state.old.settings.now
         (GivenOf (CompletesBy state.old.settings.now text list label sealed.now))
-        (CompleteUpload sealed.now.bucket sealed.now.key text list) label result.known result.end }
-    ensures unsure { LeavesUnsureOnly (Ok result) }
+        (CompleteUpload sealed.now.bucket sealed.now.key text list) label (known_after_completion result.unfinished)
+        result.end }
+    ensures unsure { BreaksOff (W.history state.old.store.now) (W.history state.new.store.now) (Ok result) }
     ensures stands { EnsuresIfDone (W.history state.new.store.now)
-        (StandsAs result.known sealed.now) result.end }
+        (StandsAs (known_after_completion result.unfinished) sealed.now) result.end }
     ensures last { Met (GivenOf (MaySeal sealed.now)) (W.history state.old.store.now)
         → IfOk result.end (λ reply. EndsQuietly (W.history state.new.store.now)
         (W.history state.old.store.now).called (W.history state.new.store.now).called) }
@@ -99,7 +100,7 @@ pub(crate) fn seal_and_finish<W: Swift>(
             drop(reply);
             Completing {
                 end: Err(fault),
-                known: Known::Unsure,
+                unfinished: Some(fault),
             }
         }
     }
@@ -112,18 +113,18 @@ fn end_complete_upload_sealed(finished: Result<(), PlanFault>, reply: Reply) -> 
     match finished {
         Ok(()) => Completing {
             end: Ok(reply),
-            known: Known::Settled,
+            unfinished: None,
         },
         Err(PlanFault::Inconsistent) => {
             drop(reply);
             Completing {
                 end: Err(PlanFault::Inconsistent),
-                known: Known::Unsure,
+                unfinished: Some(PlanFault::Inconsistent),
             }
         }
-        Err(_) => Completing {
+        Err(fault) => Completing {
             end: Ok(reply),
-            known: Known::Unsure,
+            unfinished: Some(fault),
         },
     }
 }

@@ -1,3 +1,4 @@
+pub mod Bodiless
 pub mod BucketSteps
 pub mod CreateBucket
 pub mod Finding

@@ -1,5 +1,5 @@
 -- A read of an object before its bytes are got, and piece by piece. Source: this profile.
-use Rattle.std.specs.Prelude.{◌≡◌, ◌==◌, ◌≤◌, ◌+◌, ◌-◌, ℕ, IsTrue, IfOk, if◌then◌else◌, List, length, take, drop, Option, None, Some, Result, Ok, Err, Bool, true, false}
+use Rattle.std.specs.Prelude.{◌≡◌, ◌==◌, ◌≤◌, ◌+◌, ◌-◌, ℕ, IsTrue, IfOk, if◌then◌else◌, List, [], length, take, drop, Option, None, Some, Result, Ok, Err, Bool, true, false}
 use Rattle.s3_machine.specs.declared.operation.Label.{Label}
 use Rattle.s3_machine.specs.declared.operation.ObjectHead.{ObjectHead}
 use Rattle.s3_machine.specs.declared.operation.Op.{Op}
@@ -115,6 +115,16 @@ gives_bytes reply = false
 abbrev pub LeavesBytes : Reading → Type 0
 LeavesBytes (Whole reply) = gives_bytes reply ≡ false
 LeavesBytes (Pieces found) = Unit {0}
+
+-- a reply gives no byte of an object: the one to HeadObject has its head alone
+abbrev pub GivesNoByte : Reply → Type 0
+GivesNoByte (Object head from length partial body) = body ≡ []
+GivesNoByte reply = Unit {0}
+
+-- so it is with a whole reply; the bytes that a read found are still to be got
+abbrev pub HasNoByte : Reading → Type 0
+HasNoByte (Whole reply) = GivesNoByte reply
+HasNoByte (Pieces found) = Unit {0}
 
 -- ---- a piece
 

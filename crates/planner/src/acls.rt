@@ -1,5 +1,5 @@
 //! The plans of the operations on access control lists.
-ghost use Rattle.std.specs.Prelude.{◌≡◌, true, Some};
+ghost use Rattle.std.specs.Prelude.{◌≡◌, true, Some, IfOk};
 ghost use Rattle.s3_names.specs.Bucket.{is_bucket};
 ghost use Rattle.s3_machine.specs.Step.{IsPlace};
 ghost use Rattle.s3_machine.specs.declared.operation.Label.{Label};
@@ -11,6 +11,7 @@ ghost use Rattle.account_calls.specs.Refusals.{Stops};
 ghost use Rattle.account_calls.specs.Shows.{alone};
 ghost use Rattle.account_calls.specs.Plan.{Plans, ended};
 ghost use Rattle.planner.specs.Buckets.{set_reply};
+ghost use Rattle.planner.specs.Reading.{GivesNoByte};
 
 use account_calls::{PlanFault, Settled, head_bucket, post_bucket_container};
 use gate_base::Bytes;
@@ -29,6 +30,7 @@ pub(crate) fn get_bucket_acl<W: Swift>(
     ensures plans { (label : Label)
         → Plans (always 1) (W.history state.old.store.now) (W.history state.new.store.now)
         state.old.settings.now (Given Any) (GetBucketAcl bucket.now) label known.Settled result }
+    ensures bodiless { IfOk result GivesNoByte }
 {
     match head_bucket(state, bucket)? {
         Some(list) => Ok(Reply::AclOf(list)),
@@ -47,6 +49,7 @@ pub(crate) fn put_bucket_acl<W: Swift>(
     ensures plans { (label : Label)
         → Plans (always 1) (W.history state.old.store.now) (W.history state.new.store.now)
         state.old.settings.now (Given Any) (PutBucketAcl bucket acl) label known.Settled result }
+    ensures bodiless { IfOk result GivesNoByte }
 {
     end_put_bucket_acl_plan(post_bucket_container(state, bucket, acl))
 }
@@ -77,6 +80,7 @@ pub(crate) fn get_object_acl<W: Swift>(
         state.old.settings.now (Given Any) (GetObjectAcl bucket.now key.now) label known.Settled
         result }
     ensures stops { Stops alone 0 (W.history state.old.store.now) (W.history state.new.store.now) result }
+    ensures bodiless { IfOk result GivesNoByte }
 {
     let Some(list) = head_bucket(state, bucket)? else {
         return Ok(Reply::Refused(Code::NoSuchBucket));
@@ -99,6 +103,7 @@ fn plan_object_acl_within<W: Swift>(
         state.old.settings.now (Given (λ s. TellsBucket bucket.now s (Some list)))
         (GetObjectAcl bucket.now key.now) label known.Settled result }
     ensures stops { Stops alone 1 (W.history state.old.store.now) (W.history state.new.store.now) result }
+    ensures bodiless { IfOk result GivesNoByte }
 {
     let Some(_) = account_calls::head_object(alloc, state, bucket, key)? else {
         return Ok(Reply::Refused(Code::NoSuchKey));

@@ -1,5 +1,5 @@
 //! The plans of the operations on buckets.
-ghost use Rattle.std.specs.Prelude.{◌≡◌, ◌<◌, ◌+◌, [], true};
+ghost use Rattle.std.specs.Prelude.{◌≡◌, ◌<◌, ◌+◌, [], true, IfOk};
 ghost use Rattle.gate_base.specs.Told.{moment_limit};
 ghost use Rattle.s3_names.specs.Bucket.{is_bucket};
 ghost use Rattle.s3_machine.specs.declared.operation.Label.{Label};
@@ -16,6 +16,7 @@ ghost use Rattle.account_calls.specs.Plan.{Plans, ended};
 ghost use Rattle.account_calls.specs.Refusals.{Stops, Unrefused};
 ghost use Rattle.account_calls.specs.Shows.{alone};
 ghost use Rattle.planner.specs.Buckets.{dropped_reply, emptying, HasBareUploads, HasSides, HasUploads};
+ghost use Rattle.planner.specs.Reading.{GivesNoByte};
 
 use account_calls::{
     Dropped, PlanFault, Settled, delete_bucket_container, head_bucket, purge, put_bucket_container,
@@ -45,6 +46,7 @@ pub(crate) fn create_bucket<W: Swift>(
         (W.history state.old.store.now) (W.history state.new.store.now) state.old.settings.now
         (Given Any) (CreateBucket bucket acl) label.now known.Settled result }
     ensures stops { Stops alone 0 (W.history state.old.store.now) (W.history state.new.store.now) result }
+    ensures bodiless { IfOk result GivesNoByte }
 {
     match head_bucket(state, &bucket)? {
         None => plan_create_missing_bucket(alloc, state, bucket, acl, label),
@@ -68,6 +70,7 @@ fn plan_create_missing_bucket<W: Swift>(
         (W.history state.old.store.now) (W.history state.new.store.now) state.old.settings.now
         (Given (LacksBucket bucket)) (CreateBucket bucket acl) label.now known.Settled result }
     ensures unrefused { Unrefused result }
+    ensures bodiless { IfOk result GivesNoByte }
 {
     let uploads = uploads_container(alloc, bucket.as_slice())?;
     let segments = segments_container(alloc, bucket.as_slice())?;
@@ -94,6 +97,7 @@ fn plan_create_bucket_segments<W: Swift>(
         (W.history state.old.store.now) (W.history state.new.store.now) state.old.settings.now
         (GivenOf (HasUploads bucket)) (CreateBucket bucket acl) label.now known.Settled result }
     ensures unrefused { Unrefused result }
+    ensures bodiless { IfOk result GivesNoByte }
 {
     put_container_beside(state, &bucket, segments)?;
     empty_uploads(alloc, state, bucket, uploads, segments, acl, label)
@@ -118,6 +122,7 @@ fn empty_uploads<W: Swift>(
         (W.history state.old.store.now) (W.history state.new.store.now) state.old.settings.now
         (GivenOf (HasSides bucket)) (CreateBucket bucket acl) label.now known.Settled result }
     ensures unrefused { Unrefused result }
+    ensures bodiless { IfOk result GivesNoByte }
 {
     let all = Bytes::new(alloc);
     purge(alloc, state, &bucket, uploads, &all)?;
@@ -142,6 +147,7 @@ fn empty_segments<W: Swift>(
         (W.history state.old.store.now) (W.history state.new.store.now) state.old.settings.now
         (GivenOf (HasBareUploads bucket)) (CreateBucket bucket acl) label.now known.Settled result }
     ensures unrefused { Unrefused result }
+    ensures bodiless { IfOk result GivesNoByte }
 {
     let all = Bytes::new(alloc);
     purge(alloc, state, &bucket, segments, &all)?;
@@ -162,6 +168,7 @@ fn plan_create_bare_bucket<W: Swift>(
         state.old.settings.now (GivenOf (MayMake bucket)) (CreateBucket bucket acl) label.now
         known.Settled result }
     ensures unrefused { Unrefused result }
+    ensures bodiless { IfOk result GivesNoByte }
 {
     let name = bucket.copy()?;
     end_create_bucket_plan(put_bucket_container(state, bucket, acl, label.moment), name)
@@ -189,6 +196,7 @@ pub(crate) fn list_buckets<W: Swift>(
         (W.history state.old.store.now) (W.history state.new.store.now) state.old.settings.now
         (Given Any) ListBuckets label known.Settled result }
     ensures unrefused { Unrefused result }
+    ensures bodiless { IfOk result GivesNoByte }
 {
     Ok(Reply::Buckets(account_calls::list_buckets(alloc, state)?))
 }
@@ -203,6 +211,7 @@ pub(crate) fn delete_bucket<W: Swift>(
     ensures plans { (label : Label)
         → Plans (always 1) (W.history state.old.store.now) (W.history state.new.store.now)
         state.old.settings.now (Given Any) (DeleteBucket bucket) label known.Settled result }
+    ensures bodiless { IfOk result GivesNoByte }
 {
     end_delete_bucket_plan(delete_bucket_container(state, bucket))
 }
@@ -229,6 +238,7 @@ pub(crate) fn plan_head_bucket<W: Swift>(
     ensures stays { Stays state.old state.new }
     ensures plans { Plans (always 1) (W.history state.old.store.now) (W.history state.new.store.now)
         state.old.settings.now (Given Any) (HeadBucket bucket.now) label.now known.Settled result }
+    ensures bodiless { IfOk result GivesNoByte }
 {
     let Some(list) = head_bucket(state, bucket)? else {
         return Ok(Reply::Refused(Code::NoSuchBucket));
@@ -250,6 +260,7 @@ pub(crate) fn get_location<W: Swift>(
     ensures plans { (label : Label)
         → Plans (always 1) (W.history state.old.store.now) (W.history state.new.store.now)
         state.old.settings.now (Given Any) (GetLocation bucket.now) label known.Settled result }
+    ensures bodiless { IfOk result GivesNoByte }
 {
     let region = state.settings().region.copy()?;
     match head_bucket(state, bucket)? {

@@ -1,5 +1,5 @@
 //! The plan of ListObjects.
-ghost use Rattle.std.specs.Prelude.{◌≡◌, ◌+◌, true, Some};
+ghost use Rattle.std.specs.Prelude.{◌≡◌, ◌+◌, true, Some, IfOk};
 ghost use Rattle.s3_names.specs.Bucket.{is_bucket};
 ghost use Rattle.s3_machine.specs.Step.{IsProperAsked};
 ghost use Rattle.s3_machine.specs.declared.operation.Op.TheVariants.{ListObjects};
@@ -12,6 +12,7 @@ ghost use Rattle.account_calls.specs.Refusals.{Stops};
 ghost use Rattle.account_calls.specs.Shows.{alone};
 ghost use Rattle.account_calls.specs.Plan.{Plans};
 ghost use Rattle.planner.specs.Listing.{objects_reply};
+ghost use Rattle.planner.specs.Reading.{GivesNoByte};
 
 use account_calls::{PlanFault, Settled, head_bucket};
 use gate_base::{Bytes, List};
@@ -39,6 +40,7 @@ pub(crate) fn list_objects<W: Swift>(
         (W.history state.old.store.now) (W.history state.new.store.now) state.old.settings.now
         (Given Any) (ListObjects bucket asked) label.now known.Settled result }
     ensures stops { Stops alone 0 (W.history state.old.store.now) (W.history state.new.store.now) result }
+    ensures bodiless { IfOk result GivesNoByte }
 {
     let Some(list) = head_bucket(state, &bucket)? else {
         return Ok(Reply::Refused(Code::NoSuchBucket));
@@ -64,6 +66,7 @@ fn plan_list_objects_within<W: Swift>(
         (Given (λ s. TellsBucket bucket s (Some list))) (ListObjects bucket asked) label.now
         known.Settled result }
     ensures stops { Stops alone 1 (W.history state.old.store.now) (W.history state.new.store.now) result }
+    ensures bodiless { IfOk result GivesNoByte }
 {
     if !may_read(label.caller, list) {
         return Ok(Reply::Refused(Code::AccessDenied));

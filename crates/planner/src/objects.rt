@@ -16,6 +16,7 @@ ghost use Rattle.account_calls.specs.Refusals.{Stops, Unrefused};
 ghost use Rattle.account_calls.specs.Shows.{alone};
 ghost use Rattle.account_calls.specs.Puts.{EnsuresIfDone, StandsIn};
 ghost use Rattle.planner.specs.Objects.{headed_reply};
+ghost use Rattle.planner.specs.Reading.{GivesNoByte};
 
 use account_calls::{PlanFault, Settled, head_bucket};
 use gate_base::Bytes;
@@ -51,6 +52,7 @@ pub(crate) fn put_object<W: Swift>(
         (λ tree. StandsIn tree (put_of bucket key content_type meta.now body label.now.moment))
         result }
     ensures stops { Stops alone 0 (W.history state.old.store.now) (W.history state.new.store.now) result }
+    ensures bodiless { IfOk result GivesNoByte }
 {
     let Some(list) = head_bucket(state, &bucket)? else {
         return Ok(Reply::Refused(Code::NoSuchBucket));
@@ -93,6 +95,7 @@ fn plan_put_object_within<W: Swift>(
         (λ tree. StandsIn tree (put_of bucket key content_type meta.now body label.now.moment))
         result }
     ensures stops { Stops alone 1 (W.history state.old.store.now) (W.history state.new.store.now) result }
+    ensures bodiless { IfOk result GivesNoByte }
 {
     if is_other_acl(acl, list) {
         return Ok(Reply::Refused(Code::NotImplemented));
@@ -140,6 +143,7 @@ fn plan_put_object_bytes<W: Swift>(
         (λ tree. StandsIn tree (put_of bucket key content_type meta.now body label.now.moment))
         result }
     ensures unrefused { Unrefused result }
+    ensures bodiless { IfOk result GivesNoByte }
 {
     let text = Bytes::from_slice(alloc, etag)?;
     end_put_object_plan(
@@ -185,6 +189,7 @@ pub(crate) fn head_object<W: Swift>(
         state.old.settings.now (Given Any) (HeadObject bucket.now key.now range conditions.now)
         label.now known.Settled result }
     ensures stops { Stops alone 0 (W.history state.old.store.now) (W.history state.new.store.now) result }
+    ensures bodiless { IfOk result GivesNoByte }
 {
     let Some(list) = head_bucket(state, bucket)? else {
         return Ok(Reply::Refused(Code::NoSuchBucket));
@@ -209,6 +214,7 @@ fn plan_head_object_within<W: Swift>(
         state.old.settings.now (Given (λ s. TellsBucket bucket.now s (Some list)))
         (HeadObject bucket.now key.now range conditions.now) label.now known.Settled result }
     ensures stops { Stops alone 1 (W.history state.old.store.now) (W.history state.new.store.now) result }
+    ensures bodiless { IfOk result GivesNoByte }
 {
     if !may_read(label.caller, list) {
         return Ok(Reply::Refused(Code::AccessDenied));
@@ -229,6 +235,7 @@ fn end_head_object_plan(
     requires shown { IsShownHead (Some head) }
     ensures own { IsOwnReply result }
     ensures reply { result ≡ headed_reply range conditions.now head }
+    ensures bodiless { GivesNoByte result }
 {
     match judge(range, conditions, &head) {
         Judged::PreconditionFailed => Reply::Refused(Code::PreconditionFailed),
@@ -257,6 +264,7 @@ pub(crate) fn delete_object<W: Swift>(
         → Plans (always 2) (W.history state.old.store.now) (W.history state.new.store.now)
         state.old.settings.now (Given Any) (DeleteObject bucket key) label known.Settled result }
     ensures stops { Stops alone 0 (W.history state.old.store.now) (W.history state.new.store.now) result }
+    ensures bodiless { IfOk result GivesNoByte }
 {
     let Some(list) = head_bucket(state, &bucket)? else {
         return Ok(Reply::Refused(Code::NoSuchBucket));
@@ -277,6 +285,7 @@ fn plan_delete_object_within<W: Swift>(
         state.old.settings.now (Given (λ s. TellsBucket bucket s (Some list)))
         (DeleteObject bucket key) label known.Settled result }
     ensures unrefused { Unrefused result }
+    ensures bodiless { IfOk result GivesNoByte }
 {
     end_delete_object_plan(account_calls::delete_object(state, bucket, key))
 }

@@ -1,5 +1,5 @@
 //! The answer to each operation.
-ghost use Rattle.std.specs.Prelude.{◌≡◌, false};
+ghost use Rattle.std.specs.Prelude.{◌≡◌, false, IfOk};
 ghost use Rattle.s3_machine.specs.Step.{IsProper};
 ghost use Rattle.swift_calls.specs.History.{present};
 ghost use Rattle.account_calls.specs.Answers.{is_upload, most_calls};
@@ -11,7 +11,7 @@ ghost use Rattle.account_calls.specs.Refusals.{shows, Stops};
 ghost use Rattle.account_calls.specs.Puts.{EnsuresIfDone};
 ghost use Rattle.account_calls.specs.Told.{LeavesAccount};
 ghost use Rattle.planner.specs.Objects.{ObjectStands, StandsAnswered};
-ghost use Rattle.planner.specs.Reading.{AnsweredOrFound, LeavesBytes, ReadsBytes, reading_end};
+ghost use Rattle.planner.specs.Reading.{AnsweredOrFound, GivesNoByte, HasNoByte, LeavesBytes, ReadsBytes, reading_end};
 
 use crate::acls::{get_bucket_acl, get_object_acl, put_bucket_acl};
 use crate::buckets::{create_bucket, delete_bucket, get_location, list_buckets, plan_head_bucket};
@@ -48,6 +48,9 @@ pub fn answer<W: Swift>(alloc: Global, state: &mut Settled<'_, W>, op: Op, label
     // And gives no bytes with a whole reply.
     ensures leaves { ReadsBytes op → LeavesBytes result }
 
+    // And over every store no whole reply gives a byte of an object: what HeadObject is answered is its head alone.
+    ensures bodiless { HasNoByte result }
+
     // What was put stands, over every observable store, consistent or not.
     ensures stands { StandsAnswered op label.now (W.history state.new.store.now) result }
 {
@@ -70,6 +73,7 @@ fn begin<W: Swift>(alloc: Global, state: &mut Settled<'_, W>, op: &mut Op, label
         (W.history state.new.store.now) }
     ensures stands { StandsAnswered op.old label.now (W.history state.new.store.now) result }
     ensures leaves { ReadsBytes op.old → LeavesBytes result }
+    ensures bodiless { HasNoByte result }
 {
     match op {
         Op::GetObject {
@@ -114,6 +118,7 @@ fn plan<W: Swift>(
         (Given Any) op.old label.now known.Settled result }
     ensures stands { EnsuresIfDone (W.history state.new.store.now) (ObjectStands op.old label.now) result }
     ensures stops { Stops (shows op.old) 0 (W.history state.old.store.now) (W.history state.new.store.now) result }
+    ensures bodiless { IfOk result GivesNoByte }
 {
     match op {
         Op::CreateBucket { bucket, acl } => {
@@ -146,6 +151,7 @@ fn plan_of_key<W: Swift>(
         (Given Any) op.old label.now known.Settled result }
     ensures stands { EnsuresIfDone (W.history state.new.store.now) (ObjectStands op.old label.now) result }
     ensures stops { Stops (shows op.old) 0 (W.history state.old.store.now) (W.history state.new.store.now) result }
+    ensures bodiless { IfOk result GivesNoByte }
 {
     match op {
         Op::PutObject {
@@ -187,6 +193,7 @@ fn plan_lent<W: Swift>(
         (Given Any) op.now label.now known.Settled result }
     ensures stands { EnsuresIfDone (W.history state.new.store.now) (ObjectStands op.now label.now) result }
     ensures stops { Stops (shows op.now) 0 (W.history state.old.store.now) (W.history state.new.store.now) result }
+    ensures bodiless { IfOk result GivesNoByte }
 {
     match op {
         Op::ListBuckets => list_buckets(alloc, state),

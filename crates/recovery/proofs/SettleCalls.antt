@@ -19,7 +19,7 @@ use Rattle.account_calls.proofs.lemmas.Markers.{folder_is_marker, text_is_marker
 use Rattle.account_calls.proofs.lemmas.Quiet.{IsQuietOf, asks_left, asks_untold}
 use Rattle.account_calls.proofs.lemmas.Sides.{placed}
 use Rattle.recovery.specs.declared.state.SettleFault.{SettleFault}
-use Rattle.recovery.specs.Rolls.{HasGateway, IsCounted, Leaves, OpensGateway}
+use Rattle.recovery.specs.Rolls.{FinishesSealed, HasGateway, IsCounted, Leaves, OpensGateway}
 use Rattle.recovery.specs.Settling.{settle_fault, IsNamedFault, NamesSealed, Settles, SettlesIt}
 use Rattle.recovery.proofs.SubCalls.{asks_counted}
 
@@ -72,12 +72,13 @@ names_of plan.Inconsistent e (inl is) = subst (λ e. NamesSealed (Err e)) (sym i
 names_of plan.Inconsistent e (inr is) = subst (λ e. NamesSealed (Err e)) (sym is) (refl, refl)
 
 module _ {a b : History} (counted : IsCounted 5 Any a b) where
-  pub settles_done : Asks (always 15) a b Any (Leaves IsSettled) (Ok tt) → (IsTrue a.observable → IsSettled (present b)) → Settles a b (Ok tt)
-  settles_done asks settled = record {
+  pub settles_done : Asks (always 15) a b Any (Leaves IsSettled) (Ok tt) → (IsTrue a.observable → IsSettled (present b)) → FinishesSealed {T = Unit {0}} a b (Ok tt) → Settles a b (Ok tt)
+  settles_done asks settled finishes = record {
     within = asks.grows.calls;
     asks = asks_counted {n = 15} (asks_left tt (lit≤ tt) asks (λ old new sound same given clear. clear)) counted;
     done = λ observable e. settled observable;
     named = tt;
+    finishes = finishes;
   }
 
   fault_same : (f : PlanFault) (e : SettleFault) → IsNamedFault f e → Asks (always 15) a b Any SettlesIt (Err f) → Asks (always 15) a b Any SettlesIt (Err (settle_fault e))
@@ -87,5 +88,11 @@ module _ {a b : History} (counted : IsCounted 5 Any a b) where
       subst (λ e. Asks (always 15) a b Any SettlesIt (Err (settle_fault e))) (sym is) (record { grows = asks.grows; cause = asks.cause; effect = λ met. absurd (asks.effect met); settled = asks.settled })
   fault_same plan.Inconsistent e (inr is) asks = subst (λ e. Asks (always 15) a b Any SettlesIt (Err (settle_fault e))) (sym is) asks
 
-  pub settles_fault : {f : PlanFault} {e : SettleFault} → IsNamedFault f e → Asks (always 15) a b Any (Leaves IsSettled) (Err f) → Settles a b (Err e)
-  settles_fault {f = f} {e = e} is asks = record { within = asks.grows.calls; asks = asks_counted (fault_same f e is (asks_untold f asks)) counted; done = λ observable no. cc; named = names_of f e is }
+  pub settles_fault : {f : PlanFault} {e : SettleFault} → IsNamedFault f e → Asks (always 15) a b Any (Leaves IsSettled) (Err f) → FinishesSealed {T = Unit {0}} a b (Err f) → Settles a b (Err e)
+  settles_fault {f = f} {e = e} is asks finishes = record {
+    within = asks.grows.calls;
+    asks = asks_counted (fault_same f e is (asks_untold f asks)) counted;
+    done = λ observable no. cc;
+    named = names_of f e is;
+    finishes = record { rolls = finishes.rolls; done = λ observable. tt };
+  }

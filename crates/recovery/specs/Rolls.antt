@@ -1,6 +1,6 @@
 -- A completion that is sealed, and the calls that finish it: how far it is, and what each call leaves. Source: Object Storage API
 -- v1, "Static large objects", and this profile.
-use Rattle.std.specs.Prelude.{◌≡◌, ◌⊎◌, ◌≤◌, ◌+◌, ℕ, Bool, true, false, IsTrue, List, Option, None, Some, Result, Ok, Err}
+use Rattle.std.specs.Prelude.{◌≡◌, ◌⊎◌, ◌≤◌, ◌+◌, ℕ, Bool, true, false, IsTrue, List, Option, None, Some, Result, Ok, Err, IfOk}
 use Rattle.s3_names.specs.Id.{id_digits}
 use Rattle.swift_calls.specs.Account.{SwiftObject, SwiftAccount, files, find_object}
 use Rattle.swift_calls.specs.History.{History, present}
@@ -80,6 +80,22 @@ HoldsOrFinished s old new = IsTrue old.observable → (files (present new) gatew
 -- and calls leave what this request put
 abbrev pub KeepsFile : SwiftRequest → History → History → Type 0
 KeepsFile request old new = IsTrue old.observable → StandsIn (present old) request → StandsIn (present new) request
+
+-- over every observable store, whether its account is consistent or not, what is told to be sealed is what stands there as such
+abbrev pub SaysSealed : History → Result (Option Sealed) PlanFault → Type 0
+SaysSealed old result = IsTrue old.observable → IfOk result (λ told. told ≡ seal_of (present old))
+
+-- a completion was sealed, and the files of its object and of its record stand
+pub record IsFinishedSince (old new : SwiftAccount) : Type 0 where
+  pub s : Sealed
+  pub sealed : seal_of old ≡ Some s
+  pub finished : IsFinished s new
+
+-- calls that settle, over every observable store, whether its account is consistent or not: whatever they came to, what stands in the
+-- gateway's own container stays, or a completion was sealed there and is finished; and after a success one that was sealed is finished
+pub record FinishesSealed {T : Type 0} (old new : History) (result : Result T PlanFault) : Type 0 where
+  pub rolls : IsTrue old.observable → (files (present new) gateway_name ≡ files (present old) gateway_name) ⊎ IsFinishedSince (present old) (present new)
+  pub done : IsTrue old.observable → IfOk result (λ told. (s : Sealed) → seal_of (present old) ≡ Some s → IsFinished s (present new))
 
 -- what is sealed is told, and the account is left as it is
 pub record TellsSealed (old new : SwiftAccount) (told : Option Sealed) : Type 0 where

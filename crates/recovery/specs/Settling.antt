@@ -8,6 +8,7 @@ use Rattle.account_calls.specs.declared.fault.PlanFault.{PlanFault}
 use Rattle.account_calls.specs.declared.fault.PlanFault.TheVariants as plan
 use Rattle.account_calls.specs.Answers.{most_settling}
 use Rattle.account_calls.specs.Calls.{Any, Asks}
+use Rattle.recovery.specs.Rolls.{FinishesSealed}
 use Rattle.recovery.specs.declared.state.SettleFault.{SettleFault}
 use Rattle.recovery.specs.declared.state.SettleFault.TheVariants.{Failed, Memory, Inconsistent}
 
@@ -37,9 +38,10 @@ NamesSealed (Err (Inconsistent container name)) = (container ≡ gateway_name) �
 NamesSealed _ = Unit {0}
 
 -- a store was settled by at most fifteen calls, and over a consistent account by no more than it has sub-manifests to put: the state stays, and after Ok no completion is sealed and the gateway's own container is there, also where
--- the account is not consistent
+-- the account is not consistent; there too a completion that was sealed stands as it did, or the files of its object and of its record do
 pub record Settles (old new : History) (result : Result (Unit {0}) SettleFault) : Type 0 where
   pub within : new.called ≤ old.called + 15
   pub asks : Asks (most_settling (present old)) old new Any SettlesIt (as_plan result)
   pub done : IsTrue old.observable → result ≡ Ok tt → IsSettled (present new)
   pub named : NamesSealed result
+  pub finishes : FinishesSealed old new (as_plan result)

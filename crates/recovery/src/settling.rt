@@ -7,7 +7,7 @@ ghost use Rattle.account_calls.specs.Calls.{always, Any, Asks};
 ghost use Rattle.account_calls.specs.Lent.{Stays};
 ghost use Rattle.account_calls.specs.Puts.{Ensures, Stands, StandsIn};
 ghost use Rattle.account_calls.specs.Sealed.{put_object_of, put_record_of, put_sub_of};
-ghost use Rattle.recovery.specs.Rolls.{HasGateway, HasObject, HasRecord, HasSubs, HoldsOrFinished, HoldsSealed, IsCounted, IsFinished, IsSealed, KeepsFile, KeepsGateway, Leaves, LeavesClear, OpensGateway, TellsSealed};
+ghost use Rattle.recovery.specs.Rolls.{FinishesSealed, HasGateway, HasObject, HasRecord, HasSubs, HoldsOrFinished, HoldsSealed, IsCounted, IsFinished, IsSealed, KeepsFile, KeepsGateway, Leaves, LeavesClear, OpensGateway, SaysSealed, TellsSealed};
 
 use crate::sealed::{
     interpret_sealed_get, rolled_forward_record_request, rolled_forward_record_text,
@@ -31,6 +31,7 @@ pub(crate) fn settle_unsure_store<W: Swift>(alloc: Global, store: &mut W) -> Res
     ensures counted { IsCounted 5 Any (W.history store.old) (W.history store.new) }
     ensures done { IsTrue (W.history store.old).observable → result ≡ Ok tt
         → IsSettled (present (W.history store.new)) }
+    ensures finishes { FinishesSealed (W.history store.old) (W.history store.new) result }
 {
     make_gateway(alloc, store)?;
     settle_made(alloc, store)
@@ -43,6 +44,7 @@ fn make_gateway<W: Swift>(alloc: Global, store: &mut W) -> Result<(), PlanFault>
         OpensGateway result }
     ensures there { IsTrue (W.history store.old).observable → result ≡ Ok tt
         → HasGateway (present (W.history store.new)) }
+    ensures holds { HoldsSealed (W.history store.old) (W.history store.new) }
 {
     let reply = ask(
         store,
@@ -61,6 +63,7 @@ fn settle_made<W: Swift>(alloc: Global, store: &mut W) -> Result<(), PlanFault>
         (Leaves IsSettled) result }
     ensures counted { IsCounted 4 HasGateway (W.history store.old) (W.history store.new) }
     ensures done { LeavesClear tt (W.history store.old) (W.history store.new) result }
+    ensures finishes { FinishesSealed (W.history store.old) (W.history store.new) result }
 {
     match get_sealed(alloc, store)? {
         Some(sealed) => roll_forward(alloc, store, &sealed),
@@ -77,6 +80,8 @@ fn get_sealed<W: Swift>(alloc: Global, store: &mut W) -> Result<Option<Sealed>, 
     ensures has { IfOk result (λ found. IfSome found (λ s. has_sealed_text s ≡ true)) }
     ensures keeps { KeepsGateway (W.history store.old) (W.history store.new) }
     ensures none { LeavesClear None (W.history store.old) (W.history store.new) result }
+    ensures says { SaysSealed (W.history store.old) result }
+    ensures holds { HoldsSealed (W.history store.old) (W.history store.new) }
 {
     let container = gateway_container(alloc)?;
     let name = sealed_name(alloc)?;

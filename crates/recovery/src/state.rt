@@ -48,7 +48,8 @@ impl<'a, W: Swift> Unsure<'a, W> {
     /// looked for, and a completion that is found is finished. That is two calls, or five and one for each sub-manifest. The S3
     /// state stays. Failed comes only where the store's count of faults rose; Memory where memory ran out; Inconsistent, of the file of what is sealed,
     /// never over an observable consistent account. After Ok no completion is sealed and the container is there, over every
-    /// observable store; after a fault a completion may be sealed.
+    /// observable store; after a fault a completion may be sealed. There too, consistent or not, the files of one that was sealed stand
+    /// after Ok, and after a fault they do, or what was sealed is as it was.
     pub fn settle(&mut self) -> Result<(), SettleFault>
         ensures same { self.new.store.ghost_name ≡ self.old.store.ghost_name }
         ensures settings { self.new.settings.now ≡ self.old.settings.now }

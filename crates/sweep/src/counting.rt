@@ -6,6 +6,7 @@ ghost use Rattle.upload_texts.specs.Sealed.{has_sealed_text};
 ghost use Rattle.account_calls.specs.Answers.{pages};
 ghost use Rattle.account_calls.specs.Calls.{always, by_account, Any, Asks};
 ghost use Rattle.account_calls.specs.Listing.{TellsNames, TellsOf};
+ghost use Rattle.account_calls.specs.Told.{LeavesThroughout};
 ghost use Rattle.sweep.specs.Surveying.{plus, share_calls, shares_calls, HasName, HasAllNames, IsFaultAt, TellsSealed, TellsShares, TellsSum};
 ghost use Rattle.sweep.specs.Swept.{as_plan, SurveysAccount};
 
@@ -86,6 +87,7 @@ fn add_share<W: Swift>(
     ensures asks { Asks (by_account (share_calls (present (W.history store.old)) name.now))
         (W.history store.old) (W.history store.new) (HasName sealed.now name.now)
         (TellsOf (TellsSum total.now name.now)) result }
+    ensures leaves { LeavesThroughout (W.history store.old) (W.history store.new) }
 {
     let share = survey_name(alloc, store, sealed, name)?;
     Ok(plus(total, &share)?)
@@ -102,6 +104,7 @@ fn survey_names<W: Swift>(
     ensures asks { Asks (by_account (shares_calls (present (W.history store.old)) names.now))
         (W.history store.old) (W.history store.new) (HasAllNames sealed.now names.now)
         (TellsOf (TellsShares names.now)) (as_plan result) }
+    ensures leaves { LeavesThroughout (W.history store.old) (W.history store.new) }
 {
     let mut total = Surveyed {
         buckets: 0,
@@ -125,6 +128,7 @@ fn survey_sealed<W: Swift>(alloc: Global, store: &mut W) -> Result<Option<Sealed
     ensures asks { Asks (always 1) (W.history store.old) (W.history store.new) Any
         (TellsOf TellsSealed) (as_plan result) }
     ensures has { IfOk result (λ found. IfSome found (λ s. has_sealed_text s ≡ true)) }
+    ensures leaves { LeavesThroughout (W.history store.old) (W.history store.new) }
 {
     match get_sealed(alloc, store) {
         Ok(found) => Ok(found),
@@ -136,6 +140,7 @@ fn survey_sealed<W: Swift>(alloc: Global, store: &mut W) -> Result<Option<Sealed
 fn survey_containers<W: Swift>(alloc: Global, store: &mut W) -> Result<List<Bytes>, SweepFault>
     ensures asks { Asks (by_account (pages (len (present (W.history store.old)))))
         (W.history store.old) (W.history store.new) Any (TellsOf TellsNames) (as_plan result) }
+    ensures leaves { LeavesThroughout (W.history store.old) (W.history store.new) }
 {
     match container_names(alloc, store) {
         Ok(names) => Ok(names),
@@ -143,14 +148,16 @@ fn survey_containers<W: Swift>(alloc: Global, store: &mut W) -> Result<List<Byte
     }
 }
 
-/// Counts what stands on an account, by calls that write nothing. At most 4 calls, and 16 for each container and each object in them,
+/// Counts what stands on an account, by calls that write nothing: at each of them the account is as it was, consistent
+/// or not. At most 4 calls, and 16 for each container and each object in them,
 /// where the store is observable and its account consistent. Failed comes only where the store's count of faults rose; Memory where
 /// memory ran out, or 64 bits don't hold a count; Inconsistent never over an observable consistent account. It names
 /// the bucket that was counted, for the containers beside it too, or the container that stands beside a bucket that may be missing;
 /// the file of what is sealed, where that can't be read; and nothing, where the listing of the containers can't. Of any other object
 /// the name is empty.
 pub fn survey<W: Swift>(alloc: Global, store: &mut W) -> Result<Surveyed, SweepFault>
-    ensures { SurveysAccount (W.history store.old) (W.history store.new) result }
+    ensures asks { SurveysAccount (W.history store.old) (W.history store.new) result }
+    ensures leaves { LeavesThroughout (W.history store.old) (W.history store.new) }
 {
     let sealed = survey_sealed(alloc, store)?;
     let names = survey_containers(alloc, store)?;

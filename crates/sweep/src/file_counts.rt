@@ -6,6 +6,7 @@ ghost use Rattle.swift_calls.specs.Limits.{IsMarker};
 ghost use Rattle.swift_calls.specs.Step.{IsContainerName};
 ghost use Rattle.account_calls.specs.Calls.{always, by_account, Any, Asks};
 ghost use Rattle.account_calls.specs.Listing.{TellsOf};
+ghost use Rattle.account_calls.specs.Told.{LeavesThroughout};
 ghost use Rattle.leftovers.specs.Used.{is_taken};
 ghost use Rattle.sweep.specs.Surveying.{one_more, page_calls, TalliesFiles, TellsTallied, TellsTally};
 
@@ -76,6 +77,7 @@ fn tally_page<W: Swift>(
     ensures is_marker { IfOk result (λ told. IfSome told.1 IsMarker) }
     ensures asks { Asks (always 1) (W.history store.old) (W.history store.new) Any
         (TellsOf (TellsTallied (is_taken used.now) folder.now marker.now total)) result }
+    ensures leaves { LeavesThroughout (W.history store.old) (W.history store.new) }
 {
     let page = file_page(alloc, store, folder.as_slice(), marker.as_slice())?;
     let next = next_marker(page.as_slice())?;
@@ -96,6 +98,7 @@ pub(crate) fn tally_files<W: Swift>(
     ensures asks { Asks (by_account (page_calls (present (W.history store.old)) folder.now))
         (W.history store.old) (W.history store.new) Any
         (TellsOf (TellsTally (is_taken used.now) folder.now)) result }
+    ensures leaves { LeavesThroughout (W.history store.old) (W.history store.new) }
 {
     let mut total = FileCount { used: 0, unused: 0 };
     let mut marker = Bytes::new(alloc);

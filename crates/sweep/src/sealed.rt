@@ -4,6 +4,7 @@ ghost use Rattle.upload_texts.specs.Sealed.{has_sealed_text, read_sealed};
 ghost use Rattle.account_calls.specs.Calls.{always, Any, Asks};
 ghost use Rattle.account_calls.specs.Interpret.{Gives, known};
 ghost use Rattle.account_calls.specs.Listing.{TellsOf};
+ghost use Rattle.account_calls.specs.Told.{LeavesThroughout};
 ghost use Rattle.account_calls.specs.declared.fault.PlanFault.TheVariants as fault;
 ghost use Rattle.sweep.specs.Surveying.{sealed_due, TellsSealed};
 
@@ -23,6 +24,7 @@ pub(crate) fn get_sealed<W: Swift>(
     ensures asks { Asks (always 1) (W.history store.old) (W.history store.new) Any
         (TellsOf TellsSealed) result }
     ensures has { IfOk result (λ found. IfSome found (λ s. has_sealed_text s ≡ true)) }
+    ensures leaves { LeavesThroughout (W.history store.old) (W.history store.new) }
 {
     let container = gateway_container(alloc)?;
     let name = sealed_name(alloc)?;

@@ -6,6 +6,7 @@ ghost use Rattle.upload_texts.specs.Sealed.{has_sealed_text};
 ghost use Rattle.upload_records.specs.Layout.{segments_name};
 ghost use Rattle.account_calls.specs.Calls.{by_account, Any, Asks};
 ghost use Rattle.account_calls.specs.Listing.{TellsOf};
+ghost use Rattle.account_calls.specs.Told.{LeavesThroughout};
 ghost use Rattle.leftovers.specs.Gathering.{InBucket};
 ghost use Rattle.sweep.specs.Surveying.{bucket_calls, orphans_calls, page_calls, records_calls, share_calls, stray_calls, HasName, HasOpened, TellsBucketShare, TellsObjects, TellsOrphans, TellsRecords, TellsShare, TellsStray, TellsStrayShare};
 
@@ -26,6 +27,7 @@ fn count_objects<W: Swift>(alloc: Global, store: &mut W, bucket: &Bytes) -> Resu
     requires { is_bucket bucket.now ≡ true }
     ensures asks { Asks (by_account (page_calls (present (W.history store.old)) bucket.now))
         (W.history store.old) (W.history store.new) Any (TellsOf (TellsObjects bucket.now)) result }
+    ensures leaves { LeavesThroughout (W.history store.old) (W.history store.new) }
 {
     let used = Used::nothing(alloc);
     let tally = tally_files(alloc, store, bucket, &used)?;
@@ -42,6 +44,7 @@ fn survey_records<W: Swift>(
     ensures asks { Asks (by_account (records_calls (present (W.history store.old)) bucket.now))
         (W.history store.old) (W.history store.new) (InBucket bucket.now)
         (TellsOf (TellsRecords bucket.now)) result }
+    ensures leaves { LeavesThroughout (W.history store.old) (W.history store.new) }
 {
     let folder = uploads_container(alloc, bucket.as_slice())?;
     let opened = gather(alloc, store, bucket, &folder, Source::Records)?;
@@ -63,6 +66,7 @@ fn count_orphans<W: Swift>(
     ensures asks { Asks (by_account (orphans_calls (present (W.history store.old)) bucket.now))
         (W.history store.old) (W.history store.new) (HasOpened sealed.now bucket.now opened)
         (TellsOf (TellsOrphans bucket.now)) result }
+    ensures leaves { LeavesThroughout (W.history store.old) (W.history store.new) }
 {
     let folder = segments_container(alloc, bucket.as_slice())?;
     let mut listed = gather(alloc, store, bucket, bucket, Source::Objects)?;
@@ -87,6 +91,7 @@ fn survey_bucket<W: Swift>(
     ensures asks { Asks (by_account (bucket_calls (present (W.history store.old)) bucket.now))
         (W.history store.old) (W.history store.new) (HasName sealed.now bucket.now)
         (TellsOf (TellsBucketShare bucket.now)) result }
+    ensures leaves { LeavesThroughout (W.history store.old) (W.history store.new) }
 {
     let objects = count_objects(alloc, store, bucket)?;
     let (opened, records) = survey_records(alloc, store, bucket)?;
@@ -113,6 +118,7 @@ fn count_strays<W: Swift>(
     requires folder { folder.now ≡ segments_name bucket.now }
     ensures asks { Asks (by_account (stray_calls (present (W.history store.old)) bucket.now))
         (W.history store.old) (W.history store.new) Any (TellsOf (TellsStray bucket.now)) result }
+    ensures leaves { LeavesThroughout (W.history store.old) (W.history store.new) }
 {
     if is_there(store, bucket)? {
         return Ok(0);
@@ -133,6 +139,7 @@ fn survey_strays<W: Swift>(
     requires folder { folder.now ≡ segments_name bucket.now }
     ensures asks { Asks (by_account (stray_calls (present (W.history store.old)) bucket.now))
         (W.history store.old) (W.history store.new) Any (TellsOf (TellsStrayShare bucket.now)) result }
+    ensures leaves { LeavesThroughout (W.history store.old) (W.history store.new) }
 {
     let orphans = count_strays(alloc, store, bucket, folder)?;
     Ok(Surveyed {
@@ -150,6 +157,7 @@ fn survey_side<W: Swift>(alloc: Global, store: &mut W, name: &Bytes) -> Result<S
     requires { is_bucket name.now ≡ false }
     ensures asks { Asks (by_account (share_calls (present (W.history store.old)) name.now))
         (W.history store.old) (W.history store.new) Any (TellsOf (TellsShare name.now)) result }
+    ensures leaves { LeavesThroughout (W.history store.old) (W.history store.new) }
 {
     match bucket_beside(alloc, name, Kind::Segments)? {
         Some(bucket) => survey_strays(alloc, store, &bucket, name),
@@ -175,6 +183,7 @@ pub(crate) fn survey_name<W: Swift>(
     ensures asks { Asks (by_account (share_calls (present (W.history store.old)) name.now))
         (W.history store.old) (W.history store.new) (HasName sealed.now name.now)
         (TellsOf (TellsShare name.now)) result }
+    ensures leaves { LeavesThroughout (W.history store.old) (W.history store.new) }
 {
     if is_bucket(name.as_slice()) {
         return survey_bucket(alloc, store, sealed, name);

@@ -1,5 +1,6 @@
 -- The pages of an account's names.
-use Rattle.std.proofs.Common.{◌≡◌, ℕ, zero, suc, ◌+◌, ◌-◌, ◌<◌, ◌≤◌, add-one, Bool, true, false, cond, ◌&&◌, List, [], ◌∷◌, ◌++◌, map, length, take, drop, get_or, nat_eq, nat_le, nat_lt, slice_get, Ok, Err, Option, None, Some, refl, sym, ap, subst, ◌∙◌, arith, append_assoc}
+use Rattle.std.proofs.Common.{◌≡◌, ℕ, zero, suc, ◌+◌, ◌-◌, ◌<◌, ◌≤◌, add-one, Bool, true, false, cond, ◌&&◌, List, [], ◌∷◌, ◌++◌, map, length, take, drop, get_or, nat_eq, nat_le, nat_lt, slice_get, Ok, Err, is_some, Option, None, Some, Result, IfOk, IsTrue, refl, sym, ap, subst, ◌∙◌, arith, append_assoc}
+use Rattle.std.specs.Result.{IsErrAnd}
 use Rattle.std.specs.List.{filter, starts_with, AllByRecursion}
 use Rattle.std.specs.Ordering.{is_gt, is_lt}
 use Rattle.std.specs.FinMap.{entries, entries_sorted, keys}
@@ -10,13 +11,19 @@ use Rattle.std.proofs.Math.Seq.{drop-cons}
 use Rattle.std.proofs.lemmas.Option.{slice_get-get_or}
 use Rattle.gate_base.specs.Maps.{name_cmp}
 use Rattle.swift_calls.specs.Account.{SwiftAccount}
+use Rattle.swift_calls.specs.History.{History, Calls, present}
 use Rattle.swift_calls.specs.Limits.{IsMarker}
-use Rattle.swift_calls.specs.Step.{page, is_listed}
+use Rattle.swift_calls.specs.Step.{page, is_listed, names_reply}
+use Rattle.swift_calls.specs.declared.calls.SwiftReply.{SwiftReply}
 use Rattle.swift_calls.specs.declared.calls.SwiftRequest.TheVariants.{ListContainers}
-use Rattle.upload_records.specs.Consistent.{IsConsistent}
-use Rattle.account_calls.specs.Listing.{after, ascends, most_names, names_due, next_marker, MayListAfter, GoesOnAfter, TellsPage, TellsNext}
+use Rattle.upload_records.specs.Consistent.{IsConsistent, IsThere}
+use Rattle.account_calls.specs.declared.fault.PlanFault.{PlanFault}
+use Rattle.account_calls.specs.Calls.{GoesOn}
+use Rattle.account_calls.specs.Told.{LeavesThroughout}
+use Rattle.account_calls.specs.Listing.{after, ascends, most_names, names_due, next_marker, MayListAfter, GoesOnAfter, NamesContainers, TellsPage, TellsNext}
 use Rattle.account_calls.proofs.lemmas.Ascending.{after_at, after_later, filter_ascends, keys_ascend}
-use Rattle.account_calls.proofs.lemmas.One.{IsReadingOf}
+use Rattle.account_calls.proofs.lemmas.Left.{throughout_end}
+use Rattle.account_calls.proofs.lemmas.One.{IsReadingOf, found}
 use Rattle.list_pages.specs.Listing.{Ascends}
 use Rattle.list_pages.proofs.lemmas.Sorted.{sorted_filter}
 use Rattle.account_calls.specs.declared.fault.PlanFault.TheVariants.{Inconsistent}
@@ -177,3 +184,58 @@ ascends_stop last name names i so near is not =
 
 pub ascends_end : (last : List ℕ) (names : List (List ℕ)) (i : ℕ) {whole : Bool} → whole ≡ ascends last (drop i names) → length names ≤ i → whole ≡ true
 ascends_end last names i so far = so ∙ ap (ascends last) (drop_all i names far)
+
+-- ---- over every observable store
+
+module _ (tree : SwiftAccount) where
+  keys_there : (names : List (List ℕ)) → AllByRecursion (IsKey tree) names → AllByRecursion (IsThere tree) names
+  keys_there [] h = tt
+  keys_there (name ∷ names) h = (ap is_some h.0.1, keys_there names h.1)
+
+  some_there : (n : ℕ) (names : List (List ℕ)) → AllByRecursion (IsThere tree) names → AllByRecursion (IsThere tree) (take n names)
+  some_there zero [] h = tt
+  some_there zero (name ∷ names) h = tt
+  some_there (suc n) [] h = tt
+  some_there (suc n) (name ∷ names) h = (h.0, some_there n names h.1)
+
+  page_there : (marker : List ℕ) → AllByRecursion (IsThere tree) (page 1000 (λ e. e.0) (λ e. is_listed [] marker e.0) (entries tree))
+  page_there marker =
+      subst (AllByRecursion (IsThere tree)) (sym (page_is marker tree))
+      (some_there 1000 (after marker (keys tree)) (kept (IsThere tree) (λ n. is_gt (name_cmp n marker)) (keys tree) (keys_there (keys tree) (keys_are tree))))
+
+  if_kept : (t : Bool) (names : List (List ℕ)) → AllByRecursion (IsThere tree) names → IfOk (cond t (Ok names) (Err Inconsistent)) (AllByRecursion (IsThere tree))
+  if_kept true names h = h
+  if_kept false names h = tt
+
+  due_there : (marker name : List ℕ) → IfOk (names_due marker (names_reply 1000 name tree)) (AllByRecursion (IsThere tree))
+  due_there marker name =
+      let names = page 1000 (λ e. e.0) (λ e. is_listed [] name e.0) (entries tree) in
+      if_kept (nat_le (length names) most_names && ascends marker names) names (page_there name)
+
+-- there is a container of each name of a page that was answered
+pub names_there : {old new : History} {name : List ℕ} {reply : SwiftReply} (marker : List ℕ) → Calls old new (ListContainers name 1000) (Ok reply)
+    → (result : Result (List (List ℕ)) PlanFault) → result ≡ names_due marker reply → NamesContainers old result
+names_there {old = old} {new = new} {name = name} {reply = reply} marker calls result is observable =
+    let answered : reply ≡ names_reply 1000 name (present old) = (calls.effect observable).reply ∙ ap (names_reply 1000 name) (found calls observable) in
+    subst (λ r. IfOk r (AllByRecursion (IsThere (present old)))) (sym (is ∙ ap (names_due marker) answered)) (due_there (present old) marker name)
+
+-- and of those of a page more
+pub more_there : (h : History) (names told new : List (List ℕ)) → new ≡ names ++ told → NamesContainers h (Ok told) → NamesContainers h (Ok names) → NamesContainers h (Ok new)
+more_there h names told new added next first observable = subst (AllByRecursion (IsThere (present h))) (sym added) (joined names told (first observable) (next observable))
+  where
+    joined : (front back : List (List ℕ)) → AllByRecursion (IsThere (present h)) front → AllByRecursion (IsThere (present h)) back → AllByRecursion (IsThere (present h)) (front ++ back)
+    joined [] back first then = then
+    joined (name ∷ front) back first then = (first.0, joined front back first.1 then)
+
+-- nothing was told
+pub none_told : (h : History) (result : Result (List (List ℕ)) PlanFault) (e : PlanFault) → IsErrAnd result (λ f. f ≡ e) → NamesContainers h result
+none_told h (Ok names) e is = absurd is
+none_told h (Err f) e is = λ observable. tt
+
+-- calls left the account: what was told of it before them holds after them, and the other way round
+module _ {a b : History} (on : GoesOn a b) (leaves : LeavesThroughout a b) (names : List (List ℕ)) where
+  pub there_before : (IsTrue b.observable → AllByRecursion (IsThere (present b)) names) → IsTrue a.observable → AllByRecursion (IsThere (present a)) names
+  there_before there observable = subst (λ tree. AllByRecursion (IsThere tree) names) (throughout_end on leaves observable) (there (on.observable observable))
+
+  pub there_after : (IsTrue a.observable → AllByRecursion (IsThere (present a)) names) → IsTrue b.observable → AllByRecursion (IsThere (present b)) names
+  there_after there observable = subst (λ tree. AllByRecursion (IsThere tree) names) (sym (throughout_end on leaves (on.told observable))) (there (on.told observable))

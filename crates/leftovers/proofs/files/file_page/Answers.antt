@@ -1,4 +1,5 @@
 use Rattle.account_calls.proofs.lemmas.FilePages.{page_fault, page_told}
+use Rattle.account_calls.proofs.lemmas.Left.{throughout_page}
 use Rattle.leftovers.proofs.files.file_page.Goals as goal
 
 pub returns-in_err-names-clause-asks : goal.returns-in_err-names-clause-asks
@@ -6,3 +7,9 @@ returns-in_err-names-clause-asks g c = page_fault _ _ _ c.in_err-names.ensures.a
 
 pub returns-clause-asks : goal.returns-clause-asks
 returns-clause-asks g c = page_told _ _ _ c.in_ok-names.ensures.asks
+
+pub returns-in_err-names-clause-leaves : goal.returns-in_err-names-clause-leaves
+returns-in_err-names-clause-leaves g c = throughout_page c.in_err-names.ensures.asks
+
+pub returns-clause-leaves : goal.returns-clause-leaves
+returns-clause-leaves g c = throughout_page c.in_ok-names.ensures.asks

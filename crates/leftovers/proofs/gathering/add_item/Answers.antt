@@ -14,9 +14,11 @@ add_record-requires-clause-folder g c = subst IsContainerName (sym (c.requires.f
 pub returns-in-Records : goal.returns-in-Records
 returns-in-Records g c = record {
   asks = rw (c.in-Records.is) (asks_room (omega arith) (asks_under (has_record (c.requires.folder ∙ ap (λ (s : Source). folder_of s c.args.bucket.now) c.in-Records.is)) (c.add_record.ensures.asks c.args.bucket.now c.requires.bucket (c.requires.folder ∙ ap (λ (s : Source). folder_of s c.args.bucket.now) c.in-Records.is))));
+  leaves = c.add_record.ensures.leaves;
 }
 
 pub returns-in-Objects : goal.returns-in-Objects
 returns-in-Objects g c = record {
   asks = rw (c.requires.folder ∙ ap (λ (s : Source). folder_of s c.args.bucket.now) c.in-Objects.is, c.in-Objects.is) c.add_object.ensures.asks;
+  leaves = c.add_object.ensures.leaves;
 }

@@ -1,19 +1,20 @@
 use Rattle.std.proofs.Common.{sym, ap, ◌∙◌}
 use Rattle.account_calls.proofs.lemmas.One.{not_asked}
+use Rattle.account_calls.proofs.lemmas.Left.{throughout_none}
 use Rattle.leftovers.specs.Leftovers.{is_sub_manifest_name}
 use Rattle.leftovers.proofs.Namings.{part_named, sub_added}
 use Rattle.leftovers.proofs.lemmas.Readings.{asks_idle}
 use Rattle.leftovers.proofs.gathering.add_segment.Goals as goal
 
 pub returns-in_err-put : goal.returns-in_err-put
-returns-in_err-put g c = record { asks = not_asked _ _ _ c.from_residual.ensures.1 }
+returns-in_err-put g c = record { asks = not_asked _ _ _ c.from_residual.ensures.1; leaves = throughout_none (g.W.Swift.history c.args.store.now) }
 
 pub returns-then-not-is_sub_manifest : goal.returns-then-not-is_sub_manifest
 returns-then-not-is_sub_manifest g c =
     let not = ap is_sub_manifest_name (sym c.as_slice-2.ensures) ∙ sym c.is_sub_manifest.ensures ∙ c.if-not-is_sub_manifest.true in
-    record { asks = asks_idle _ _ tt (λ tree sound known. part_named tree c.args.bucket.now c.args.segment.now c.args.table.now c.put.new.self c.as_slice.result.now c.as_slice.ensures not known c.in_ok-put.ensures.ok) }
+    record { asks = asks_idle _ _ tt (λ tree sound known. part_named tree c.args.bucket.now c.args.segment.now c.args.table.now c.put.new.self c.as_slice.result.now c.as_slice.ensures not known c.in_ok-put.ensures.ok); leaves = throughout_none (g.W.Swift.history c.args.store.now) }
 
 pub returns : goal.returns
 returns g c =
     let so = ap is_sub_manifest_name (sym c.as_slice-2.ensures) ∙ sym c.is_sub_manifest.ensures ∙ c.if-not-is_sub_manifest.false in
-    record { asks = sub_added c.args.bucket.now c.args.segment.now c.args.table.now c.put.new.self c.add_sub_manifest.new.table c.as_slice.result.now c.as_slice.ensures so c.in_ok-put.ensures.ok _ c.add_sub_manifest.ensures.asks }
+    record { asks = sub_added c.args.bucket.now c.args.segment.now c.args.table.now c.put.new.self c.add_sub_manifest.new.table c.as_slice.result.now c.as_slice.ensures so c.in_ok-put.ensures.ok _ c.add_sub_manifest.ensures.asks; leaves = c.add_sub_manifest.ensures.leaves }

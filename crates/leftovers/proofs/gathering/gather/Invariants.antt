@@ -1,6 +1,7 @@
 use Rattle.std.proofs.Common.{◌-◌}
 use Rattle.swift_calls.specs.History.{budget}
 use Rattle.swift_calls.specs.Limits.{IsMarker}
+use Rattle.account_calls.specs.Told.{LeavesThroughout}
 use Rattle.leftovers.proofs.Gathers.{Gathering}
 use Rattle.leftovers.proofs.gathering.gather.Given as goal
 
@@ -11,4 +12,5 @@ abbrev pub invariant-pages : goal.invariant-pages
 invariant-pages g l = record {
   is_marker : IsMarker l.marker;
   gathering : Gathering (g.W.Swift.history l.initial.store) (g.W.Swift.history l.store) l.source l.folder l.bucket l.marker l.table;
+  leaves : LeavesThroughout (g.W.Swift.history l.initial.store) (g.W.Swift.history l.store);
 }

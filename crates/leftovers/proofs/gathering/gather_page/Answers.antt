@@ -4,6 +4,7 @@ use Rattle.swift_calls.specs.Step.{IsContainerName}
 use Rattle.list_pages.specs.Listing.{name_in}
 use Rattle.account_calls.specs.Calls.{always, Any}
 use Rattle.account_calls.specs.FilePages.{next_after}
+use Rattle.account_calls.proofs.lemmas.Left.{throughout_then}
 use Rattle.leftovers.proofs.lemmas.PageRead.{all_keys, as_asked, as_page, as_read, next_is_marker, page_few}
 use Rattle.account_calls.proofs.lemmas.Idle.{grows_none}
 use Rattle.leftovers.proofs.Gathers.{folder_fits, gather_broken, gather_failed, gather_more, gather_no_memory, gather_pays, gather_pays_broken, gather_pays_failed}
@@ -61,3 +62,9 @@ returns-clause-pays g c =
     let next = c.in_ok-next.ensures ∙ ap (λ p. next_after (map name_in p)) (c.as_slice-3.ensures ∙ sym c.as_slice-4.ensures) in
     gather_pays c.args.source c.args.folder.now c.args.bucket.now c.args.marker.now c.as_slice-4.result.now c.args.table.now c.add_items.new.table first c.in_ok-add_items.ensures.asks.grows few c.in_ok-next.next
     (gather_more c.args.source c.args.folder.now c.args.bucket.now c.args.marker.now c.as_slice-4.result.now c.args.table.now c.add_items.new.table first few c.in_ok-next.next next c.in_ok-add_items.ensures.asks)
+
+pub returns-in_err-add_items-clause-leaves : goal.returns-in_err-add_items-clause-leaves
+returns-in_err-add_items-clause-leaves g c = throughout_then c.in_ok-page.ensures.asks.grows.on c.in_err-add_items.ensures.asks.grows.on c.in_ok-page.ensures.leaves c.in_err-add_items.ensures.leaves
+
+pub returns-clause-leaves : goal.returns-clause-leaves
+returns-clause-leaves g c = throughout_then c.in_ok-page.ensures.asks.grows.on c.in_ok-add_items.ensures.asks.grows.on c.in_ok-page.ensures.leaves c.in_ok-add_items.ensures.leaves

@@ -5,6 +5,7 @@ use Rattle.account_calls.specs.Calls.{always}
 use Rattle.account_calls.proofs.lemmas.Ends.{after_told, calls_end, calls_in_vain, goes_on_from, met_within}
 use Rattle.many_keys.proofs.CopiedPart.{as_wanted, copy_is_told, not_gone, source_told}
 use Rattle.account_calls.proofs.lemmas.Puts.{ensures_less}
+use Rattle.many_keys.proofs.CopiedFrom.{of_file}
 use Rattle.many_keys.proofs.copied_part.plan_part_copy_of_bytes.Goals as goal
 
 pub plan_put_part_copy-requires-clause-sized : goal.plan_put_part_copy-requires-clause-sized
@@ -42,3 +43,6 @@ returns-clause-plans g c = λ key text.
 
 pub returns-clause-stands : goal.returns-clause-stands
 returns-clause-stands g c = ensures_less (λ tree stands. record { body = _; stands = stands }) _ c.plan_put_part_copy.ensures.stands
+
+pub returns-clause-unchanged : goal.returns-clause-unchanged
+returns-clause-unchanged g c = of_file (g.W.Swift.history c.args.state.now.store.now) c.args.from_bucket c.args.from_key c.args.head.size c.as_slice-etag.ensures c.in-Some.is c.in_ok-told.ensures.unchanged _

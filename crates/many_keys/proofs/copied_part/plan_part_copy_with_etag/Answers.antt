@@ -7,6 +7,8 @@ use Rattle.account_calls.specs.Puts.{EnsuresIfDone}
 use Rattle.many_keys.proofs.CopiedPart.{copied_is_own, copy_stored}
 use Rattle.account_calls.proofs.lemmas.Refusals.{unrefused_ended}
 use Rattle.account_calls.specs.Refusals.{Unrefused}
+use Rattle.many_keys.specs.Replies.{AnswersMany}
+use Rattle.many_keys.proofs.ReplyKinds.{kind_ended}
 use Rattle.many_keys.proofs.copied_part.plan_part_copy_with_etag.Goals as goal
 
 pub returns-in_err-text-clause-plans : goal.returns-in_err-text-clause-plans
@@ -23,3 +25,6 @@ returns-clause-stands g c = subst (EnsuresIfDone _ _) (sym c.end_upload_part_cop
 
 pub returns-clause-unrefused : goal.returns-clause-unrefused
 returns-clause-unrefused g c = subst Unrefused (sym c.end_upload_part_copy_plan.ensures) (unrefused_ended _ (λ told. refl) _)
+
+pub returns-clause-kind : goal.returns-clause-kind
+returns-clause-kind g c = subst AnswersMany (sym c.end_upload_part_copy_plan.ensures) (kind_ended _ (λ told. refl) _)

@@ -3,6 +3,7 @@ use Rattle.std.proofs.lemmas.Bool.Decides.{nat_tests}
 use Rattle.account_calls.proofs.lemmas.Ends.{needs_none}
 use Rattle.many_keys.proofs.CopySteps.{as_few, copy_itself, plans_of_parts, plans_wider}
 use Rattle.account_calls.proofs.lemmas.Refusals.{stops_unrefused}
+use Rattle.many_keys.proofs.CopiedFrom.{copied_of_parts, told_kind, told_unrefused}
 use Rattle.many_keys.proofs.copies.copy_found.Goals as goal
 
 pub returns-then-is_onto_itself-clause-plans : goal.returns-then-is_onto_itself-clause-plans
@@ -16,7 +17,16 @@ pub returns-else-len-le32-clause-plans : goal.returns-else-len-le32-clause-plans
 returns-else-len-le32-clause-plans g c = plans_of_parts (grind (arith, nat_tests, c.if-len-le32.false, c.len.ensures)) c.copy_source_of_parts.ensures.plans
 
 pub returns-then-len-le32-clause-stops : goal.returns-then-len-le32-clause-stops
-returns-then-len-le32-clause-stops g c = stops_unrefused _ c.copy_plain_source.ensures.unrefused
+returns-then-len-le32-clause-stops g c = stops_unrefused _ (told_unrefused _ _ _ c.copy_plain_source.ensures.told)
 
 pub returns-else-len-le32-clause-stops : goal.returns-else-len-le32-clause-stops
-returns-else-len-le32-clause-stops g c = stops_unrefused _ c.copy_source_of_parts.ensures.unrefused
+returns-else-len-le32-clause-stops g c = stops_unrefused _ (told_unrefused _ _ _ c.copy_source_of_parts.ensures.told)
+
+pub returns-then-len-le32-clause-kind : goal.returns-then-len-le32-clause-kind
+returns-then-len-le32-clause-kind g c = told_kind _ _ _ c.copy_plain_source.ensures.told
+
+pub returns-else-len-le32-clause-kind : goal.returns-else-len-le32-clause-kind
+returns-else-len-le32-clause-kind g c = told_kind _ _ _ c.copy_source_of_parts.ensures.told
+
+pub returns-else-len-le32-clause-source : goal.returns-else-len-le32-clause-source
+returns-else-len-le32-clause-source g c = copied_of_parts _ _ (omega (arith, c.if-len-le32.false, c.len.ensures)) _ c.copy_source_of_parts.ensures.told

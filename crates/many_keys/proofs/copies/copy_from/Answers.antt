@@ -5,6 +5,7 @@ use Rattle.account_calls.proofs.lemmas.Ends.{told_nothing, answers, met_settled,
 use Rattle.many_keys.specs.Copies.{IsFoundBucket, IsFoundSource}
 use Rattle.many_keys.proofs.CopySteps.{as_few, one_more, copy_source_missing}
 use Rattle.account_calls.proofs.lemmas.Refusals.{stops_behind}
+use Rattle.many_keys.proofs.CopiedFrom.{copied_behind}
 use Rattle.many_keys.proofs.copies.copy_from.Goals as goal
 
 pub returns-in_err-head-clause-plans : goal.returns-in_err-head-clause-plans
@@ -23,3 +24,6 @@ returns-clause-plans g c =
 
 pub returns-clause-stops : goal.returns-clause-stops
 returns-clause-stops g c = stops_behind c.in_ok-head.ensures.asks _ c.copy_under_conditions.ensures.stops
+
+pub returns-clause-source : goal.returns-clause-source
+returns-clause-source g c = copied_behind c.in_ok-head.ensures.leaves c.in_ok-head.ensures.asks.grows.on.observable _ c.copy_under_conditions.ensures.source

@@ -5,6 +5,7 @@ use Rattle.account_calls.specs.Calls.{Any, TellsBucket}
 use Rattle.account_calls.proofs.lemmas.Ends.{told_nothing, answers, met_settled, after_told, goes_on_from}
 use Rattle.many_keys.proofs.CopySteps.{as_few, one_more, copy_missing}
 use Rattle.account_calls.proofs.lemmas.Refusals.{stops_behind}
+use Rattle.many_keys.proofs.CopiedFrom.{copied_behind}
 use Rattle.many_keys.proofs.copies.copy_object.Goals as goal
 
 pub returns-in_err-list-clause-plans : goal.returns-in_err-list-clause-plans
@@ -22,3 +23,6 @@ returns-clause-plans g c =
 
 pub returns-clause-stops : goal.returns-clause-stops
 returns-clause-stops g c = stops_behind c.in_ok-list.ensures.asks _ c.copy_within.ensures.stops
+
+pub returns-clause-source : goal.returns-clause-source
+returns-clause-source g c = copied_behind c.in_ok-list.ensures.leaves c.in_ok-list.ensures.asks.grows.on.observable _ c.copy_within.ensures.source

@@ -3,6 +3,7 @@ use Rattle.upload_records.specs.Native.{s3_state}
 use Rattle.account_calls.specs.Calls.{always}
 use Rattle.account_calls.proofs.lemmas.Ends.{after_told, calls_in_vain, goes_on_from, met_within}
 use Rattle.many_keys.specs.Copies.{IsFoundSource, IsReadSource}
+use Rattle.many_keys.proofs.CopiedFrom.{copied_of}
 use Rattle.many_keys.proofs.copies.copy_plain_source.Goals as goal
 
 pub returns-in_err-body-clause-plans : goal.returns-in_err-body-clause-plans
@@ -17,3 +18,6 @@ returns-clause-plans g c = λ acl list same other.
     (λ tree. IsReadSource c.args.bucket list c.args.from_bucket c.args.from_key c.args.head c.in_ok-body.body (s3_state tree)) c.in_ok-body.body refl
     (λ tree found told. record { listed = found.listed; source = found.source; read = told }))
     (omega arith)
+
+pub returns-clause-source : goal.returns-clause-source
+returns-clause-source g c = copied_of _ _ c.in_ok-body.ensures.unchanged _ c.put_copy.ensures.told

@@ -1,30 +1,10 @@
-use Rattle.std.specs.Prelude.{None, Some}
-use Rattle.std.proofs.Common.{sym, ◌∙◌, lit≤, rules}
-use Rattle.upload_records.specs.Native.{s3_state}
-use Rattle.account_calls.specs.Calls.{TellsBucket}
-use Rattle.account_calls.proofs.lemmas.Ends.{needs_none, told_nothing, answers, met_settled, after_told, goes_on_from}
-use Rattle.many_keys.specs.Copies.{IsFoundBucket}
-use Rattle.many_keys.proofs.CopySteps.{as_few, one_more, copy_other, copy_from_missing}
-use Rattle.account_calls.proofs.lemmas.Refusals.{stops_behind}
+use Rattle.std.proofs.Common.{sym, ◌∙◌, rules}
+use Rattle.account_calls.proofs.lemmas.Ends.{needs_none}
+use Rattle.many_keys.proofs.CopySteps.{copy_other}
 use Rattle.many_keys.proofs.copies.copy_within.Goals as goal
 
 pub returns-then-is_other_acl-clause-plans : goal.returns-then-is_other_acl-clause-plans
 returns-then-is_other_acl-clause-plans g c = needs_none _ (search rules) (λ tree there. copy_other _ _ _ _ _ _ _ _ _ _ _ there (sym c.is_other_acl.ensures ∙ c.if-is_other_acl.true))
 
-pub returns-in_err-from-clause-plans : goal.returns-in_err-from-clause-plans
-returns-in_err-from-clause-plans g c = told_nothing (as_few c.args.bucket c.args.from_bucket c.args.from_key 1 4 _ (lit≤ tt)) c.in_err-from.ensures.asks _ c.from_residual.ensures.1
-
-pub returns-in_default-clause-plans : goal.returns-in_default-clause-plans
-returns-in_default-clause-plans g c =
-    answers (as_few c.args.bucket c.args.from_bucket c.args.from_key 1 4 _ (lit≤ tt)) None c.in_default.is _ c.in_ok-from.ensures.asks (search rules)
-    (λ tree there told. copy_from_missing _ _ _ _ _ _ _ _ _ _ _ there (sym c.is_other_acl.ensures ∙ c.if-is_other_acl.false) told)
-
 pub returns-clause-plans : goal.returns-clause-plans
-returns-clause-plans g c =
-    goes_on_from met_settled c.head_bucket.ensures.stays.settings c.in_ok-from.ensures.asks c.copy_from.ensures.plans
-    (after_told (λ tree. TellsBucket c.args.bucket (s3_state tree) (Some c.args.list)) (λ tree. IsFoundBucket c.args.bucket c.args.list c.args.from_bucket (s3_state tree)) (Some c.in-Some.from) c.in-Some.is
-    (λ tree there told. record { listed = there; from = (c.in-Some.from, told) }))
-    (λ x. one_more c.args.bucket c.args.from_bucket c.args.from_key 3 x.1.same)
-
-pub returns-clause-stops : goal.returns-clause-stops
-returns-clause-stops g c = stops_behind c.in_ok-from.ensures.asks _ c.copy_from.ensures.stops
+returns-clause-plans g c = c.copy_with_acl.ensures.plans

@@ -6,8 +6,8 @@ use Rattle.account_calls.specs.Puts.{EnsuresIfDone}
 use Rattle.many_keys.proofs.CopiesStand.{plain_stands}
 use Rattle.many_keys.proofs.CopySteps.{copy_put}
 use Rattle.many_keys.proofs.Sources.{source_body}
-use Rattle.account_calls.proofs.lemmas.Refusals.{unrefused_ended}
-use Rattle.account_calls.specs.Refusals.{Unrefused}
+use Rattle.many_keys.specs.Copies.{TellsCopied}
+use Rattle.many_keys.proofs.CopiedFrom.{told_ended}
 use Rattle.many_keys.proofs.copies.put_copy.Goals as goal
 
 pub put_object-requires-clause-etag : goal.put_object-requires-clause-etag
@@ -24,5 +24,5 @@ returns-clause-stands g c =
     subst (EnsuresIfDone _ _) (sym c.end_copy_object_plan.ensures)
     (ensures_less (λ tree stands. plain_stands tree c.args.bucket c.args.key _ _ c.args.body c.args.label.now.moment stands) _ (ensures_ended _ _ c.put_object.ensures.stands))
 
-pub returns-clause-unrefused : goal.returns-clause-unrefused
-returns-clause-unrefused g c = subst Unrefused (sym c.end_copy_object_plan.ensures) (unrefused_ended _ (λ told. refl) _)
+pub returns-clause-told : goal.returns-clause-told
+returns-clause-told g c = subst (TellsCopied _ _) (sym c.end_copy_object_plan.ensures) (told_ended _ refl _)

@@ -1,8 +1,10 @@
-use Rattle.std.proofs.Common.{ap}
+use Rattle.std.proofs.Common.{ap, subst}
 use Rattle.upload_texts.specs.declared.sealed.Sealed.{Sealed}
 use Rattle.many_keys.proofs.CopyPlans.{copy_goes_on, copy_in_vain, cut_is_well, is_copy, lists_parts, sized_cut}
 use Rattle.account_calls.proofs.lemmas.Puts.{ensures_less}
-use Rattle.many_keys.proofs.CopiesStand.{listed_stands}
+use Rattle.many_keys.proofs.CopiesStand.{own_stands}
+use Rattle.many_keys.specs.Copies.{TellsCopied}
+use Rattle.many_keys.proofs.OwnSegments.{has_own}
 use Rattle.many_keys.proofs.listed.copy_under.Goals as goal
 
 pub copy_source_segments-requires-clause-cut : goal.copy_source_segments-requires-clause-cut
@@ -23,4 +25,15 @@ returns-clause-plans g c = λ acl list other onto.
     c.args.cut.now c.in_ok-parts.parts c.as_slice.ensures c.copy_source_segments.ensures.stays.settings c.in_ok-parts.ensures.listed c.in_ok-parts.ensures.asks c.sealed_copy-sealed.ensures.copy c.put_copy_of_parts-end.ensures.plans
 
 pub returns-clause-stands : goal.returns-clause-stands
-returns-clause-stands g c = ensures_less (λ tree stands. listed_stands c.sealed_copy-sealed.ensures.copy tree stands) _ c.put_copy_of_parts-end.ensures.stands
+returns-clause-stands g c =
+    ensures_less own_stands _
+    (has_own (ap (λ (s : Sealed). s.bucket) c.sealed_copy-sealed.ensures.copy) (ap (λ (s : Sealed). s.key) c.sealed_copy-sealed.ensures.copy) (ap (λ (s : Sealed). s.id) c.sealed_copy-sealed.ensures.copy) (ap (λ (s : Sealed). s.moment) c.sealed_copy-sealed.ensures.copy)
+    (ap (λ (s : Sealed). s.list) c.sealed_copy-sealed.ensures.copy) c.as_slice.ensures c.in_ok-parts.ensures.listed c.in_ok-parts.ensures.own _ c.put_copy_of_parts-end.ensures.own c.put_copy_of_parts-end.ensures.stands)
+
+pub returns-clause-told : goal.returns-clause-told
+returns-clause-told g c = subst (λ (s : Sealed). TellsCopied s.etag s.moment c.put_copy_of_parts-end.result) c.sealed_copy-sealed.ensures.copy c.put_copy_of_parts-end.ensures.told
+
+pub returns-clause-own : goal.returns-clause-own
+returns-clause-own g c =
+    has_own (ap (λ (s : Sealed). s.bucket) c.sealed_copy-sealed.ensures.copy) (ap (λ (s : Sealed). s.key) c.sealed_copy-sealed.ensures.copy) (ap (λ (s : Sealed). s.id) c.sealed_copy-sealed.ensures.copy) (ap (λ (s : Sealed). s.moment) c.sealed_copy-sealed.ensures.copy)
+    (ap (λ (s : Sealed). s.list) c.sealed_copy-sealed.ensures.copy) c.as_slice.ensures c.in_ok-parts.ensures.listed c.in_ok-parts.ensures.own _ c.put_copy_of_parts-end.ensures.own c.put_copy_of_parts-end.ensures.stands

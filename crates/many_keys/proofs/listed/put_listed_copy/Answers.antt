@@ -4,8 +4,9 @@ use Rattle.account_calls.proofs.lemmas.Ends.{commits, out_of_memory}
 use Rattle.account_calls.proofs.lemmas.Puts.{ensures_ended}
 use Rattle.account_calls.specs.Puts.{EnsuresIfDone}
 use Rattle.many_keys.proofs.PutsFile.{copy_steps}
-use Rattle.account_calls.proofs.lemmas.Refusals.{unrefused_ended}
-use Rattle.account_calls.specs.Refusals.{Unrefused}
+use Rattle.many_keys.specs.Copies.{TellsCopied}
+use Rattle.many_keys.proofs.CopiedFrom.{told_ended}
+use Rattle.many_keys.proofs.OwnSegments.{nothing_leaves}
 use Rattle.many_keys.proofs.listed.put_listed_copy.Goals as goal
 
 pub returns-clause-plans : goal.returns-clause-plans
@@ -20,5 +21,11 @@ returns-in_err-etag-clause-plans g c = λ acl list from_bucket from_key replaced
 pub returns-clause-stands : goal.returns-clause-stands
 returns-clause-stands g c = subst (EnsuresIfDone _ _) (sym c.end_copy_object_plan.ensures) (ensures_ended _ _ c.put_copy_file.ensures.stands)
 
-pub returns-clause-unrefused : goal.returns-clause-unrefused
-returns-clause-unrefused g c = subst Unrefused (sym c.end_copy_object_plan.ensures) (unrefused_ended _ (λ told. refl) _)
+pub returns-clause-told : goal.returns-clause-told
+returns-clause-told g c = subst (TellsCopied _ _) (sym c.end_copy_object_plan.ensures) (told_ended _ c.in_ok-etag.ensures _)
+
+pub returns-in_err-etag-clause-leaves : goal.returns-in_err-etag-clause-leaves
+returns-in_err-etag-clause-leaves g c = nothing_leaves _ _
+
+pub returns-clause-leaves : goal.returns-clause-leaves
+returns-clause-leaves g c = c.put_copy_file.ensures.leaves

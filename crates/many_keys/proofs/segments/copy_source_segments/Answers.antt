@@ -1,10 +1,11 @@
 use Rattle.std.proofs.Common.{refl, ◌∙◌, arith}
 use Rattle.s3_names.specs.Id.{id_digits}
 use Rattle.many_keys.proofs.Copying.{copying_all, copying_fault, copying_next, copying_none, copying_unlisted, fewer, of_the_cut, piece_at}
+use Rattle.many_keys.proofs.OwnSegments.{own_next, stand_none}
 use Rattle.many_keys.proofs.segments.copy_source_segments.Goals as goal
 
 pub loop-piece-init : goal.loop-piece-init
-loop-piece-init g c = record { stays = record { store = refl; settings = refl }; copying = copying_none _ _ _ _ _ _ c.args.cut.now _ c.new-list.ensures }
+loop-piece-init g c = record { stays = record { store = refl; settings = refl }; copying = copying_none _ _ _ _ _ _ c.args.cut.now _ c.new-list.ensures; own = λ observable. stand_none _ _ _ _ _ c.new-list.ensures }
 
 pub copy_piece-requires-clause-number : goal.copy_piece-requires-clause-number
 copy_piece-requires-clause-number g c = (piece_at c.loop-piece.piece-index c.args.cut.now (record { number = 0; size = 0 }) c.requires.cut c.loop-piece-test.true).number
@@ -29,6 +30,7 @@ loop-piece-preserved g c = record {
     settings = c.in_ok-part.ensures.stays.settings ∙ c.loop-piece.invariant.stays.settings;
   };
   copying = copying_next c.args.cut.now c.loop-piece.piece-index _ c.loop-piece.invariant.copying c.loop-piece-test.true c.requires.cut c.in_ok-part.ensures.asks c.in_ok-part.ensures.part c.in_ok-part.ensures.proper c.in_ok-push.ensures.ok;
+  own = own_next c.args.cut.now c.loop-piece.piece-index _ c.loop-piece.invariant.copying c.loop-piece-test.true c.requires.cut c.in_ok-part.ensures.asks.grows.on.told c.loop-piece.invariant.own c.in_ok-part.ensures.own c.in_ok-push.ensures.ok;
 }
 
 pub returns-clause-listed : goal.returns-clause-listed
@@ -36,3 +38,6 @@ returns-clause-listed g c = (copying_all c.args.cut.now c.loop-piece.piece-index
 
 pub returns-clause-asks : goal.returns-clause-asks
 returns-clause-asks g c = (copying_all c.args.cut.now c.loop-piece.piece-index c.loop-piece.invariant.copying c.loop-piece-test.false).1
+
+pub returns-clause-own : goal.returns-clause-own
+returns-clause-own g c = c.loop-piece.invariant.own

@@ -1,5 +1,7 @@
-use Rattle.std.specs.Prelude.{take}
+use Rattle.std.specs.Prelude.{IsTrue, take}
+use Rattle.swift_calls.specs.History.{present}
 use Rattle.account_calls.specs.Lent.{Stays}
+use Rattle.many_keys.specs.OwnSegments.{StandSegments}
 use Rattle.many_keys.proofs.Copying.{Copying}
 use Rattle.many_keys.proofs.segments.copy_source_segments.Given as goal
 
@@ -7,4 +9,5 @@ abbrev pub invariant-loop-piece : goal.invariant-loop-piece
 invariant-loop-piece g l = record {
   stays : Stays l.initial.state l.state;
   copying : Copying (g.W.Swift.history l.initial.state.store.now) (g.W.Swift.history l.state.store.now) l.bucket l.id l.from_bucket l.from_id l.moment l.cut (take l.piece-index l.cut) l.list;
+  own : IsTrue (g.W.Swift.history l.state.store.now).observable → StandSegments l.bucket l.id l.moment l.list (present (g.W.Swift.history l.state.store.now));
 }

@@ -1,10 +1,11 @@
-use Rattle.std.proofs.Common.{◌≡◌, true, length, ap, ◌∙◌}
+use Rattle.std.proofs.Common.{◌≡◌, true, length, ap, ◌∙◌, refl}
 use Rattle.std.proofs.lemmas.Result.{IfOk-weaker}
 use Rattle.s3_machine.specs.ETag.{body_etag}
 use Rattle.upload_texts.specs.Sealed.{part_fits_sealed_text}
 use Rattle.upload_texts.specs.declared.sealed.SealedPart.{SealedPart}
 use Rattle.account_calls.proofs.lemmas.One.{not_asked}
 use Rattle.many_keys.proofs.PieceCalls.{part_is_sealed}
+use Rattle.many_keys.proofs.OwnSegments.{own_failed}
 use Rattle.many_keys.proofs.segments.put_copied_segment.Goals as goal
 
 pub returns-in_err-from_slice-clause-asks : goal.returns-in_err-from_slice-clause-asks
@@ -34,3 +35,9 @@ returns-clause-proper g c =
     (ap (λ (p : SealedPart). p.etag) is ∙ (c.in_ok-from_slice.ensures ∙ (c.body_etag-etag.ensures ∙ ap body_etag c.as_slice.ensures))) (ap (λ (p : SealedPart). p.size) is ∙ c.len.ensures)
     c.requires.number c.requires.sized)
     c.put_copied_segment_file.ensures.told
+
+pub returns-in_err-from_slice-clause-own : goal.returns-in_err-from_slice-clause-own
+returns-in_err-from_slice-clause-own g c = own_failed _ _ c.from_residual.ensures.1 (λ observable container other never. refl)
+
+pub returns-clause-own : goal.returns-clause-own
+returns-clause-own g c = c.put_copied_segment_file.ensures.own

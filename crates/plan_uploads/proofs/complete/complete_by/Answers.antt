@@ -5,6 +5,7 @@ use Rattle.plan_uploads.proofs.Completions.{invalid_part, listed_as}
 use Rattle.plan_uploads.specs.declared.complete.Completing.{Completing}
 use Rattle.plan_uploads.proofs.CompletionEnds.{refused_ensures}
 use Rattle.plan_uploads.specs.Completing.{ShownByParts}
+use Rattle.plan_uploads.proofs.Unfinished.{not_begun, not_needed}
 use Rattle.plan_uploads.proofs.complete.complete_by.Goals as goal
 
 pub returns-in_err-chosen-clause-plans : goal.returns-in_err-chosen-clause-plans
@@ -26,3 +27,12 @@ returns-in_default-clause-stands g c = refused_ensures InvalidPart _ (ap (λ (x 
 
 pub returns-in_default-clause-shown : goal.returns-in_default-clause-shown
 returns-in_default-clause-shown g c = subst (λ (x : Completing). ShownByParts x.end) (sym c.end_complete_upload_refused.ensures) refl
+
+pub returns-in_err-chosen-clause-unsure : goal.returns-in_err-chosen-clause-unsure
+returns-in_err-chosen-clause-unsure g c = not_begun _ _ c.from_residual.ensures.1
+
+pub returns-in_default-clause-unsure : goal.returns-in_default-clause-unsure
+returns-in_default-clause-unsure g c = not_needed _ _ c.end_complete_upload_refused.ensures
+
+pub returns-clause-unsure : goal.returns-clause-unsure
+returns-clause-unsure g c = c.complete_chosen.ensures.unsure

@@ -9,6 +9,7 @@ use Rattle.plan_uploads.specs.Completing.{StandsAs, known_in, ShownByParts}
 use Rattle.plan_uploads.specs.declared.complete.Completing.{Completing}
 use Rattle.plan_uploads.proofs.CompletionEnds.{refused_ensures}
 use Rattle.plan_uploads.proofs.Stopping.{shown_by_none}
+use Rattle.plan_uploads.proofs.Unfinished.{not_begun, not_needed}
 use Rattle.plan_uploads.proofs.complete.complete_chosen.Goals as goal
 
 pub returns-then-has_small_chosen_part-clause-plans : goal.returns-then-has_small_chosen_part-clause-plans
@@ -44,3 +45,12 @@ returns-then-has_small_chosen_part-clause-shown g c = subst (λ (x : Completing)
 
 pub returns-clause-shown : goal.returns-clause-shown
 returns-clause-shown g c = shown_by_none _ c.complete_sealed-completing.ensures.unrefused
+
+pub returns-then-has_small_chosen_part-clause-unsure : goal.returns-then-has_small_chosen_part-clause-unsure
+returns-then-has_small_chosen_part-clause-unsure g c = not_needed _ _ c.end_complete_upload_refused.ensures
+
+pub returns-in_err-sealed-clause-unsure : goal.returns-in_err-sealed-clause-unsure
+returns-in_err-sealed-clause-unsure g c = not_begun _ _ c.from_residual.ensures.1
+
+pub returns-clause-unsure : goal.returns-clause-unsure
+returns-clause-unsure g c = c.complete_sealed-completing.ensures.unsure

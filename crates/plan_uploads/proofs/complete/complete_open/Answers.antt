@@ -14,6 +14,7 @@ use Rattle.plan_uploads.proofs.CompletionEnds.{refused_ensures}
 use Rattle.account_calls.proofs.lemmas.Refusals.{stops_unshown}
 use Rattle.account_calls.specs.Refusals.{Stops}
 use Rattle.account_calls.specs.Shows.{alone}
+use Rattle.plan_uploads.proofs.Unfinished.{broke_behind, not_begun, not_needed}
 use Rattle.plan_uploads.proofs.complete.complete_open.Goals as goal
 
 pub returns-then-not-rises-clause-plans : goal.returns-then-not-rises-clause-plans
@@ -43,3 +44,12 @@ returns-then-not-rises-clause-stops g c = rw c.end_complete_upload_refused.ensur
 
 pub returns-clause-stops : goal.returns-clause-stops
 returns-clause-stops g c = stops_unshown _ c.complete_by.ensures.shown
+
+pub returns-then-not-rises-clause-unsure : goal.returns-then-not-rises-clause-unsure
+returns-then-not-rises-clause-unsure g c = not_needed _ _ c.end_complete_upload_refused.ensures
+
+pub returns-in_err-parts-clause-unsure : goal.returns-in_err-parts-clause-unsure
+returns-in_err-parts-clause-unsure g c = not_begun _ _ c.from_residual.ensures.1
+
+pub returns-clause-unsure : goal.returns-clause-unsure
+returns-clause-unsure g c = broke_behind c.in_ok-parts.ensures.asks.cause c.complete_by.ensures.unsure

@@ -16,6 +16,7 @@ use Rattle.account_calls.specs.Shows.{alone}
 use Rattle.std.specs.Prelude.{◌+◌, length}
 use Rattle.swift_calls.specs.History.{present}
 use Rattle.upload_records.specs.Native.{s3_state, sub_manifests}
+use Rattle.plan_uploads.proofs.Unfinished.{broke_behind, not_begun, not_needed}
 use Rattle.plan_uploads.proofs.complete.complete_upload.Goals as goal
 
 pub returns-in_err-find_upload_to_complete-clause-plans : goal.returns-in_err-find_upload_to_complete-clause-plans
@@ -77,3 +78,21 @@ returns-in_ok-end_complete_upload_again-in-Again-clause-stops g c = rw c.in_ok-e
 
 pub returns-in-Open-clause-stops : goal.returns-in-Open-clause-stops
 returns-in-Open-clause-stops g c = stops_behind c.in_ok-find_upload_to_complete.ensures.asks _ c.complete_open.ensures.stops
+
+pub returns-in_err-find_upload_to_complete-clause-unsure : goal.returns-in_err-find_upload_to_complete-clause-unsure
+returns-in_err-find_upload_to_complete-clause-unsure g c = not_begun _ _ c.from_residual.ensures.1
+
+pub returns-in-NoBucket-clause-unsure : goal.returns-in-NoBucket-clause-unsure
+returns-in-NoBucket-clause-unsure g c = not_needed _ _ c.end_complete_upload_refused.ensures
+
+pub returns-in-NoUpload-clause-unsure : goal.returns-in-NoUpload-clause-unsure
+returns-in-NoUpload-clause-unsure g c = not_needed _ _ c.end_complete_upload_refused-in-NoUpload.ensures
+
+pub returns-in_err-end_complete_upload_again-in-Again-clause-unsure : goal.returns-in_err-end_complete_upload_again-in-Again-clause-unsure
+returns-in_err-end_complete_upload_again-in-Again-clause-unsure g c = not_begun _ _ c.from_residual-in_err-end_complete_upload_again-in-Again.ensures.1
+
+pub returns-in_ok-end_complete_upload_again-in-Again-clause-unsure : goal.returns-in_ok-end_complete_upload_again-in-Again-clause-unsure
+returns-in_ok-end_complete_upload_again-in-Again-clause-unsure g c = not_needed _ _ c.in_ok-end_complete_upload_again-in-Again.ensures
+
+pub returns-in-Open-clause-unsure : goal.returns-in-Open-clause-unsure
+returns-in-Open-clause-unsure g c = broke_behind c.in_ok-find_upload_to_complete.ensures.asks.cause c.complete_open.ensures.unsure

@@ -1,8 +1,10 @@
 use Rattle.plan_uploads.proofs.Finishing.{ends_quietly, finished_then, seal_fails, stands_then}
 use Rattle.plan_uploads.proofs.Stopping.{sealed_unrefused}
 use Rattle.std.proofs.Common.{ap, sym, subst}
+use Rattle.account_calls.specs.Answers.{may_be_sealed}
 use Rattle.account_calls.specs.Refusals.{Unrefused, is_refusal}
 use Rattle.plan_uploads.specs.declared.complete.Completing.{Completing}
+use Rattle.plan_uploads.proofs.Unfinished.{rolling_broke, seal_broke}
 use Rattle.plan_uploads.proofs.seal.seal_and_finish.Goals as goal
 
 pub returns-in-Ok-clause-plans : goal.returns-in-Ok-clause-plans
@@ -22,3 +24,9 @@ returns-in-Ok-clause-last g c = ends_quietly _ _ c.end_complete_upload_sealed.en
 
 pub returns-in-Ok-clause-unrefused : goal.returns-in-Ok-clause-unrefused
 returns-in-Ok-clause-unrefused g c = subst (λ (x : Completing). Unrefused x.end) (sym c.end_complete_upload_sealed.ensures) (sealed_unrefused _ _ (ap is_refusal c.requires.reply))
+
+pub returns-in-Ok-clause-unsure : goal.returns-in-Ok-clause-unsure
+returns-in-Ok-clause-unsure g c = rolling_broke _ _ c.end_complete_upload_sealed.ensures (ap may_be_sealed c.requires.reply) c.in-Ok.ensures.seals c.roll_forward_held.ensures.asks
+
+pub returns-in-Err-clause-unsure : goal.returns-in-Err-clause-unsure
+returns-in-Err-clause-unsure g c = seal_broke c.in-Err.fault c.in-Err.ensures.seals.cause

@@ -8,6 +8,7 @@ use Rattle.account_calls.proofs.lemmas.Ends.{as_wide, met_settled, needs_none, c
 use Rattle.planner.proofs.Listings.{items_are_own, list_refused, list_told}
 use Rattle.account_calls.specs.Refusals.{Stops}
 use Rattle.account_calls.specs.Shows.{alone}
+use Rattle.planner.specs.Reading.{GivesNoByte}
 use Rattle.planner.proofs.listing.plan_list_objects_within.Goals as goal
 
 pub returns-then-not-may_read-clause-plans : goal.returns-then-not-may_read-clause-plans
@@ -27,3 +28,6 @@ returns-clause-plans g c =
 
 pub returns-clause-stops : goal.returns-clause-stops
 returns-clause-stops g c = rw c.end_list_objects_plan.ensures (record { so = tt })
+
+pub returns-clause-bodiless : goal.returns-clause-bodiless
+returns-clause-bodiless g c = subst GivesNoByte (sym c.end_list_objects_plan.ensures) tt

@@ -4,6 +4,7 @@ use Rattle.account_calls.proofs.lemmas.Ends.{commits, becomes}
 use Rattle.planner.proofs.Steps.{deletes}
 use Rattle.account_calls.proofs.lemmas.Refusals.{unrefused_ended}
 use Rattle.account_calls.specs.Refusals.{Unrefused}
+use Rattle.planner.proofs.Bodiless.{bodiless_by}
 use Rattle.planner.proofs.objects.plan_delete_object_within.Goals as goal
 
 pub returns-clause-plans : goal.returns-clause-plans
@@ -13,3 +14,6 @@ returns-clause-plans g c = λ list label.
 
 pub returns-clause-unrefused : goal.returns-clause-unrefused
 returns-clause-unrefused g c = subst Unrefused (sym c.end_delete_object_plan.ensures) (unrefused_ended _ (λ told. refl) _)
+
+pub returns-clause-bodiless : goal.returns-clause-bodiless
+returns-clause-bodiless g c = bodiless_by _ _ _ _ c.end_delete_object_plan.ensures (λ told. tt)

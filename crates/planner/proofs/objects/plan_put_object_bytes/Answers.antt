@@ -6,6 +6,7 @@ use Rattle.account_calls.specs.Puts.{EnsuresIfDone}
 use Rattle.planner.proofs.Steps.{put_stored}
 use Rattle.account_calls.proofs.lemmas.Refusals.{unrefused_ended}
 use Rattle.account_calls.specs.Refusals.{Unrefused}
+use Rattle.planner.proofs.Bodiless.{bodiless_by}
 use Rattle.planner.proofs.objects.plan_put_object_bytes.Goals as goal
 
 pub returns-in_err-text-clause-plans : goal.returns-in_err-text-clause-plans
@@ -23,3 +24,6 @@ returns-clause-stands g c = subst (EnsuresIfDone _ _) (sym c.end_put_object_plan
 
 pub returns-clause-unrefused : goal.returns-clause-unrefused
 returns-clause-unrefused g c = subst Unrefused (sym c.end_put_object_plan.ensures) (unrefused_ended _ (λ told. refl) _)
+
+pub returns-clause-bodiless : goal.returns-clause-bodiless
+returns-clause-bodiless g c = bodiless_by _ _ _ _ c.end_put_object_plan.ensures (λ told. tt)

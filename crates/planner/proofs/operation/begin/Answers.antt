@@ -3,6 +3,8 @@ use Rattle.account_calls.specs.Plan.{Answered}
 use Rattle.account_calls.proofs.lemmas.Ends.{answered_by, none_beside}
 use Rattle.account_calls.proofs.lemmas.Puts.{ensures_reply}
 use Rattle.planner.proofs.Finding.{answered_or_found, read_puts_none, whole_stands, leaves_end}
+use Rattle.planner.specs.Reading.{GivesNoByte, HasNoByte}
+use Rattle.planner.proofs.Bodiless.{reading_bodiless, reply_bodiless}
 use Rattle.planner.proofs.operation.begin.Goals as goal
 
 pub returns-in-GetObject-clause-answered : goal.returns-in-GetObject-clause-answered
@@ -29,3 +31,9 @@ returns-in-GetObject-clause-leaves g c = λ reads. rw c.reading_end.ensures (lea
 
 pub returns-in_default-clause-leaves : goal.returns-in_default-clause-leaves
 returns-in_default-clause-leaves g c = λ reads. absurd (c.in_default.not-GetObject reads.0 reads.1 reads.2 reads.3 reads.4)
+
+pub returns-in-GetObject-clause-bodiless : goal.returns-in-GetObject-clause-bodiless
+returns-in-GetObject-clause-bodiless g c = subst HasNoByte (sym c.reading_end.ensures) (reading_bodiless _ c.find_object.ensures.leaves)
+
+pub returns-in_default-clause-bodiless : goal.returns-in_default-clause-bodiless
+returns-in_default-clause-bodiless g c = subst GivesNoByte (sym c.reply_of.ensures) (reply_bodiless _ c.plan.ensures.bodiless)

@@ -19,7 +19,7 @@ pub returns-in-GetObjectAcl-clause-plans : goal.returns-in-GetObjectAcl-clause-p
 returns-in-GetObjectAcl-clause-plans g c = rw c.in-GetObjectAcl.is (c.get_object_acl.ensures.plans c.args.label.now)
 
 pub returns-in_default : goal.returns-in_default
-returns-in_default g c = record { stays = record { store = refl; settings = refl }; plans = out_of_memory _ (Err Memory) refl; stops = record { so = tt }; stands = record { so = λ observable. tt } }
+returns-in_default g c = record { stays = record { store = refl; settings = refl }; plans = out_of_memory _ (Err Memory) refl; stops = record { so = tt }; stands = record { so = λ observable. tt }; bodiless = tt }
 
 pub returns-in-ListBuckets-clause-stands : goal.returns-in-ListBuckets-clause-stands
 returns-in-ListBuckets-clause-stands g c = rw c.in-ListBuckets.is (ensures_nothing _)

@@ -1,6 +1,7 @@
 use Rattle.account_calls.proofs.lemmas.One.{not_asked}
 use Rattle.account_calls.proofs.lemmas.Quiet.{quiet_in_vain, quieted}
 use Rattle.recovery.proofs.RollCalls.{gets_sealed, got_none}
+use Rattle.recovery.proofs.SettleStands.{get_holds, got_says}
 use Rattle.recovery.proofs.settling.get_sealed.Goals as goal
 
 pub returns-in_err-container-clause-asks : goal.returns-in_err-container-clause-asks
@@ -17,3 +18,12 @@ returns-clause-asks g c = quieted (gets_sealed c.in_ok-container.ensures c.in_ok
 
 pub returns-clause-none : goal.returns-clause-none
 returns-clause-none g c = got_none c.in_ok-container.ensures c.in_ok-name.ensures c.in_ok-reply.ensures c.interpret_sealed_get.ensures.due
+
+pub returns-in_err-reply-clause-holds : goal.returns-in_err-reply-clause-holds
+returns-in_err-reply-clause-holds g c = get_holds c.in_err-reply.ensures
+
+pub returns-clause-holds : goal.returns-clause-holds
+returns-clause-holds g c = get_holds c.in_ok-reply.ensures
+
+pub returns-clause-says : goal.returns-clause-says
+returns-clause-says g c = got_says _ c.in_ok-container.ensures c.in_ok-name.ensures c.in_ok-reply.ensures c.interpret_sealed_get.ensures.due

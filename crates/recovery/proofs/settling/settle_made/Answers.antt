@@ -5,6 +5,7 @@ use Rattle.account_calls.proofs.lemmas.SubParts.{few_sub_manifests}
 use Rattle.account_calls.proofs.lemmas.Quiet.{asks_failed, asks_left, asks_then}
 use Rattle.recovery.proofs.RollCalls.{found_none, found_sealed}
 use Rattle.recovery.proofs.SubCalls.{counted_few, counted_rolled}
+use Rattle.recovery.proofs.SettleStands.{held_in_vain, none_to_finish, rolled_forward}
 use Rattle.recovery.proofs.settling.settle_made.Goals as goal
 
 pub returns-in_err-sealed-clause-asks : goal.returns-in_err-sealed-clause-asks
@@ -28,3 +29,13 @@ returns-in-None-clause-asks g c = asks_left tt (lit≤ tt) c.in_ok-sealed.ensure
 
 pub returns-in-None-clause-counted : goal.returns-in-None-clause-counted
 returns-in-None-clause-counted g c = counted_few (lit≤ tt) c.in_ok-sealed.ensures.asks
+
+pub returns-in_err-sealed-clause-finishes : goal.returns-in_err-sealed-clause-finishes
+returns-in_err-sealed-clause-finishes g c = held_in_vain _ _ c.from_residual.ensures.1 c.in_err-sealed.ensures.holds
+
+pub returns-in-Some-clause-finishes : goal.returns-in-Some-clause-finishes
+returns-in-Some-clause-finishes g c =
+    rolled_forward c.in_ok-sealed.ensures.asks c.in-Some.is c.in_ok-sealed.ensures.says c.in_ok-sealed.ensures.holds c.roll_forward.ensures.asks.grows.on.observable _ c.roll_forward.ensures.rolls c.roll_forward.ensures.finishes
+
+pub returns-in-None-clause-finishes : goal.returns-in-None-clause-finishes
+returns-in-None-clause-finishes g c = none_to_finish c.in-None.is c.in_ok-sealed.ensures.says c.in_ok-sealed.ensures.holds

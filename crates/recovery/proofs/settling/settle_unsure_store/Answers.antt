@@ -1,6 +1,7 @@
 use Rattle.std.proofs.Common.{lit≤}
 use Rattle.account_calls.proofs.lemmas.Quiet.{asks_failed, asks_then}
 use Rattle.recovery.proofs.SubCalls.{counted_few, counted_made}
+use Rattle.recovery.proofs.SettleStands.{held_in_vain, made_then}
 use Rattle.recovery.proofs.settling.settle_unsure_store.Goals as goal
 
 pub returns-in_err-make_gateway-clause-asks : goal.returns-in_err-make_gateway-clause-asks
@@ -14,3 +15,9 @@ returns-clause-asks g c = asks_then (lit≤ tt) c.in_ok-make_gateway.ensures.ask
 
 pub returns-clause-counted : goal.returns-clause-counted
 returns-clause-counted g c = counted_made c.in_ok-make_gateway.ensures.asks c.settle_made.ensures.counted
+
+pub returns-in_err-make_gateway-clause-finishes : goal.returns-in_err-make_gateway-clause-finishes
+returns-in_err-make_gateway-clause-finishes g c = held_in_vain _ _ c.from_residual.ensures.1 c.in_err-make_gateway.ensures.holds
+
+pub returns-clause-finishes : goal.returns-clause-finishes
+returns-clause-finishes g c = made_then c.in_ok-make_gateway.ensures.asks c.in_ok-make_gateway.ensures.holds _ c.settle_made.ensures.finishes

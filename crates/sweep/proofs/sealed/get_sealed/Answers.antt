@@ -1,4 +1,6 @@
+use Rattle.std.proofs.Common.{refl}
 use Rattle.account_calls.proofs.lemmas.One.{asked_of, asked_of_in_vain, not_asked}
+use Rattle.account_calls.proofs.lemmas.Left.{throughout_none, throughout_one}
 use Rattle.sweep.proofs.SealedRead.{sealed_reads}
 use Rattle.sweep.proofs.sealed.get_sealed.Goals as goal
 
@@ -13,3 +15,15 @@ returns-in_err-reply-clause-asks g c = asked_of_in_vain (sealed_reads c.in_ok-co
 
 pub returns-clause-asks : goal.returns-clause-asks
 returns-clause-asks g c = asked_of (sealed_reads c.in_ok-container.ensures c.in_ok-name.ensures) c.in_ok-reply.ensures _ c.sealed_in_reply.ensures.due c.sealed_in_reply.ensures.own
+
+pub returns-in_err-container-clause-leaves : goal.returns-in_err-container-clause-leaves
+returns-in_err-container-clause-leaves g c = throughout_none (g.W.Swift.history c.args.store.now)
+
+pub returns-in_err-name-clause-leaves : goal.returns-in_err-name-clause-leaves
+returns-in_err-name-clause-leaves g c = throughout_none (g.W.Swift.history c.args.store.now)
+
+pub returns-in_err-reply-clause-leaves : goal.returns-in_err-reply-clause-leaves
+returns-in_err-reply-clause-leaves g c = throughout_one (λ tree. refl) c.in_err-reply.ensures
+
+pub returns-clause-leaves : goal.returns-clause-leaves
+returns-clause-leaves g c = throughout_one (λ tree. refl) c.in_ok-reply.ensures
