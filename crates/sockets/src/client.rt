@@ -1,6 +1,7 @@
 //! One client that is connected: what came of it, and what it has not taken yet.
 ghost use Rattle.std.specs.Prelude.{◌≤◌, length, IfOk};
 
+use crate::came::Came;
 use crate::front::{Front, HEAD_LIMIT, begins_no_head, find_front};
 use std::alloc::{AllocError, Global};
 use std::io;
@@ -8,17 +9,8 @@ use std::io::{ErrorKind, Read, Write};
 use std::net::{OpenStream, Shutdown, SocketAddr};
 use std::time::Duration;
 
-/// The bytes that one read asks for.
-const PIECE: usize = 65_536;
-
-/// And while a head is sought.
-const HEAD_PIECE: usize = 4_096;
-
 /// How many reads or writes are made on one client before others have their turn.
 const TURNS: usize = 32;
-
-/// A larger room is given back once it is empty, so that clients that only stay connected hold little.
-const KEPT: usize = 8_192;
 
 /// How many bytes are dropped of a client whose connection ends.
 const DROPS: usize = 16_777_216;
@@ -75,10 +67,8 @@ pub(crate) struct Client<S> {
     /// The most bytes of a body that is read ahead.
     largest: usize,
     phase: Phase,
-    /// What came and was not given, from `given` on.
-    came: Vec<u8>,
-    given: usize,
-    /// In how many bytes of `came` no end of a head was found.
+    /// What came and was not given, and in how many bytes of its front no end of a head was found.
+    came: Came,
     sought: usize,
     /// How many bytes the request at the front has, 0 while it isn't known, and how many of them are to be given.
     size: usize,
@@ -129,8 +119,7 @@ impl<S: Read + Write + OpenStream + Drop> Client<S> {
             peer,
             largest,
             phase: Phase::Waits,
-            came: Vec::new(alloc),
-            given: 0,
+            came: Came::new(alloc),
             sought: 0,
             size: 0,
             left: 0,
@@ -265,35 +254,9 @@ impl<S: Read + Write + OpenStream + Drop> Client<S> {
     }
 
     fn hear_piece(&mut self, now: Duration) -> Result<(), AllocError> {
-        let came = self.came.len();
-        let room = self.room();
-        self.grow(room)?;
-        self.came.resize(came.saturating_add(room), 0)?;
-        let start = came.min(self.came.len());
-        let got = self.stream.read(&mut self.came[start..]);
-        let count = self.note(got, now);
-        self.came.truncate(came.saturating_add(count));
+        let got = self.came.hear(&mut self.stream, self.size)?;
+        let _ = self.note(got, now);
         Ok(())
-    }
-
-    /// Makes room for what is asked for: twice what there was, but no more than the request has once its size is known. So a
-    /// buffer isn't moved into one that is twice as large for the last bytes of a body.
-    fn grow(&mut self, room: usize) -> Result<(), AllocError> {
-        let came = self.came.len();
-        if self.size == 0 || came.saturating_add(room) <= self.came.capacity() {
-            return Ok(());
-        }
-        let most = self.size.saturating_sub(came);
-        self.came.reserve_exact(came.min(most).max(room))
-    }
-
-    /// How many bytes are asked for.
-    fn room(&self) -> usize {
-        if self.size == 0 {
-            HEAD_PIECE
-        } else {
-            PIECE.min(self.size.saturating_sub(self.came.len())).max(1)
-        }
     }
 
     /// How many bytes came, with what that says of the stream.
@@ -326,7 +289,7 @@ impl<S: Read + Write + OpenStream + Drop> Client<S> {
         if self.came.is_empty() {
             return;
         }
-        if self.size == 0 && (self.has_line() || begins_no_head(&self.came)) {
+        if self.size == 0 && (self.has_line() || begins_no_head(self.came.front())) {
             self.find();
         }
         if self.size != 0 && (self.over || self.came.len() >= self.size) {
@@ -336,13 +299,13 @@ impl<S: Read + Write + OpenStream + Drop> Client<S> {
 
     /// Whether more was read that may end a head: a line end, or as much as no head may have.
     fn has_line(&self) -> bool {
-        self.came.len() >= HEAD_LIMIT
-            || self.came[self.sought.min(self.came.len())..].contains(&b'\n')
+        let front = self.came.front();
+        front.len() >= HEAD_LIMIT || front[self.sought.min(front.len())..].contains(&b'\n')
     }
 
     fn find(&mut self) {
-        self.sought = self.came.len();
-        match find_front(&self.came, self.largest) {
+        self.sought = self.came.front().len();
+        match find_front(self.came.front(), self.largest) {
             Front::Part => {}
             Front::Request { size, asks } => {
                 self.size = size;
@@ -392,17 +355,11 @@ impl<S: Read + Write + OpenStream + Drop> Client<S> {
         ensures { result ≤ length buf.old }
     {
         let most = self.most(buf.len());
-        let count = most.min(self.came.len().saturating_sub(self.given));
-        if count > 0 {
-            let start = self.given.min(self.came.len() - count);
-            buf[..count].copy_from_slice(&self.came[start..start + count]);
-            self.given = start.saturating_add(count);
+        let given = self.came.give(&mut buf[..most]);
+        if given > 0 {
+            self.left = self.left.saturating_sub(given);
             self.busy = true;
-            self.left = self.left.saturating_sub(count);
-            if self.given == self.came.len() {
-                self.empty();
-            }
-            return count;
+            return given;
         }
         if self.over || !self.readable || most == 0 {
             return 0;
@@ -427,16 +384,6 @@ impl<S: Read + Write + OpenStream + Drop> Client<S> {
         }
     }
 
-    fn empty(&mut self) {
-        self.given = 0;
-        if self.came.capacity() > KEPT {
-            let alloc = *self.came.allocator();
-            self.came = Vec::new(alloc);
-        } else {
-            self.came.truncate(0);
-        }
-    }
-
     /// Whether a part of its reply was sent, behind which more may come.
     pub(crate) fn is_replying(&self) -> bool {
         self.replying
@@ -449,10 +396,7 @@ impl<S: Read + Write + OpenStream + Drop> Client<S> {
         if !self.framed || self.left != 0 {
             return;
         }
-        let rest = self.came.len().saturating_sub(self.given);
-        self.came.copy_within(self.given.min(self.came.len()).., 0);
-        self.came.truncate(rest);
-        self.given = 0;
+        self.came.advance();
         self.sought = 0;
         self.size = 0;
         self.asks = false;
@@ -661,7 +605,7 @@ impl<S: Read + Write + OpenStream + Drop> Client<S> {
         self.ready = false;
         self.heard = now;
         self.size = 0;
-        self.empty();
+        self.came.clear();
     }
 
     /// Ends it from this side once all is sent, and drops what it still sends. True once there is no more to wait for.

@@ -1,6 +1,7 @@
 //! The outside world over sockets: connections that a listener accepts, as a line.
 #![tactic(auto)]
 
+mod came;
 mod client;
 mod crowd;
 mod front;

@@ -58,7 +58,8 @@ impl<R: Net + Clock + Drop> TcpLine<R> {
     /// A line of the clients of a listener, with no connection open yet. `limit` is the limit of time, in seconds. At
     /// most so many `connections` begin, and without that number as many as clients ask for; one that gave way and comes again is
     /// one more. `ahead` is how many bytes are read ahead or kept to be sent in all. One client's may go 2 MiB past it, and the
-    /// buffers that hold them may be twice as large. `largest` is how many bytes a body has at most that is read ahead; the length of
+    /// buffers that hold them may be twice as large; behind the first MiB of a request each 2 MiB stand in room of 32 MiB, of which what
+    /// no byte came to is no memory. `largest` is how many bytes a body has at most that is read ahead; the length of
     /// such a one has at most 10 digits.
     ///
     /// A limit of 0 is `ErrorKind::InvalidInput`, and want of memory `ErrorKind::OutOfMemory`. Any other error is the
