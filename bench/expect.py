@@ -33,13 +33,15 @@ VERB = re.compile(r"[a-z][a-z0-9-]*( .+)?")
 
 
 class Case:
-    """A case: its first line, the words of the lines that are given to it, and the lines that are expected of it."""
+    """A case: its first line, the words of the lines that are given to it, the lines that are expected of it, and whether it is a run
+    of the command `sweep`."""
 
     def __init__(self, where, line):
         self.where = where
         self.first = line
         self.words = [line.partition(" ")[0]]
         self.expected = []
+        self.sweeps = False
 
     def is_run(self):
         return self.first == "setup" or self.first.startswith("case ")
@@ -58,11 +60,12 @@ class Case:
         if self.first == "setup" and FILE.fullmatch(line):
             self.words.append(word)
             return None
-        if (self.first == "setup" and word != "words") or word not in GIVEN or not re.fullmatch(GIVEN[word], text):
+        if (self.first == "setup" and word not in {"words", "clock"}) or word not in GIVEN or not re.fullmatch(GIVEN[word], text):
             return "no line that a run is given"
         if word in self.words and word not in OFTEN:
             return "a word that stands twice in a case"
         self.words.append(word)
+        self.sweeps = self.sweeps or (word == "words" and text.split(" ")[0] == "sweep")
         return None
 
 
@@ -99,8 +102,10 @@ def read(name, text, faults):
     for case in cases:
         if not case.expected:
             faults.append(f"{case.where}: a case without an expected line")
-        if ("sweep" in case.words) != ("probe" in case.words):
-            faults.append(f"{case.where}: a sweep without a probe, or a probe without a sweep")
+        if "sweep" in case.words and "probe" not in case.words:
+            faults.append(f"{case.where}: a sweep without a probe")
+        if "probe" in case.words and "sweep" not in case.words and not case.sweeps:
+            faults.append(f"{case.where}: a probe without a sweep")
     return cases
 
 

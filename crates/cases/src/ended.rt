@@ -14,8 +14,8 @@ use case_text::{
 use case_verbs::opens_connection;
 use gate_base::{List, ListClock, ListDraws, MemLine};
 use gateway::{Ended, Service, serve_connection};
+use planned_swift::MemSwift;
 use std::alloc::Global;
-use swift_calls::MemSwift;
 
 pub(crate) fn tell_ended_connection(alloc: Global, text: &str, given: &[u8], told: &mut Told) {
     let fails = numbers_of_text(alloc, text, ' ', told);

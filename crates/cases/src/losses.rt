@@ -8,8 +8,8 @@ use case_text::{
     tell_pieces_without_calls, tell_statuses_of_pieces,
 };
 use gate_base::{Counted, List, MemLine, Piece};
+use planned_swift::MemSwift;
 use std::alloc::Global;
-use swift_calls::MemSwift;
 
 /// How a call is lost: its request, its answer, or all from it on.
 const LOSSES: [&str; 3] = ["before ", "after ", "stop "];

@@ -82,6 +82,21 @@ impl Machine {
         }
     }
 
+    /// The completions are forgotten that the words of a run name. How many they are is told where the run reported something else.
+    pub(crate) fn forget_as_run(&mut self, given: Given<'_>, report: &str, told: &mut Told) {
+        let before = match option_of_words(given, " --forget-before ") {
+            Some(value) => option_number_or_zero(value),
+            None => 0,
+        };
+        let mut due = Told::new(self.alloc);
+        due.say_number(" forgotten ", self.native.forget(before));
+        due.say("\n");
+        if !report.ends_with(due.text()) {
+            told.say("by the machine:");
+            told.say(due.text());
+        }
+    }
+
     fn answer_run_by_service(
         &mut self,
         service: &Service,

@@ -9,6 +9,7 @@
 mod cases;
 mod ended;
 mod files;
+mod forgetting;
 mod left;
 mod losses;
 mod machine;

@@ -1,6 +1,7 @@
 //! A case is run by each of its sizes, and once over the wire. What came is told once, and what is otherwise in another run
 //! beside it.
 use crate::files::put_files_of_setup;
+use crate::forgetting::probe_after_forgetting;
 use crate::left::tell_left_after_run;
 use crate::losses::sweep_case;
 use crate::machine::compare_case_with_machine;
@@ -13,8 +14,9 @@ use case_text::{
     given_text_behind, has_given_line, line_of_run, number_of_text, tell_pieces,
 };
 use gate_base::{Counted, MemLine, Piece};
+use planned_swift::MemSwift;
 use std::alloc::Global;
-use swift_calls::{MemSwift, Swift};
+use swift_calls::Swift;
 
 /// The sizes by which a case is run that names none.
 const SIZES: &str = "1 7 1024";
@@ -98,7 +100,8 @@ fn play_case_after_setup(
     }
 }
 
-/// What came by the last size, and what came otherwise by each other size, over the wire, and in a sweep.
+/// What came by the last size, and what came otherwise by each other size, over the wire, in a sweep, and behind a run that
+/// forgets.
 fn play_case_each_way(alloc: Global, first: &First, given: Given<'_>, told: &mut Told) {
     let sizes = given_numbers(alloc, given, "pieces", SIZES, told);
     match sizes.as_slice().split_last() {
@@ -107,6 +110,8 @@ fn play_case_each_way(alloc: Global, first: &First, given: Given<'_>, told: &mut
     }
     if has_given_line(given, "sweep") {
         sweep_case(alloc, first, given, told);
+    } else if has_given_line(given, "probe") {
+        probe_after_forgetting(alloc, first, given, told);
     }
 }
 

@@ -5,8 +5,9 @@ use case_text::{
 };
 use gate_base::{Counted, List, ListClock, ListDraws, MemLine, MemSink};
 use gateway_cmd::run;
+use planned_swift::{Account, MemSwift};
 use std::alloc::Global;
-use swift_calls::{Account, MemSwift, Swift};
+use swift_calls::Swift;
 
 /// Runs the program over a store, and tells its status and its report. Whether the status is 0.
 pub(crate) fn run_program_on_store<W: Swift>(

@@ -1,4 +1,5 @@
 pub mod Completing
+pub mod Forgotten
 pub mod Listings
 pub mod NewIds
 pub mod Numbers

@@ -1,3 +1,4 @@
+pub mod Forgetting
 pub mod Native
 pub mod NewIds
 pub mod Numbered

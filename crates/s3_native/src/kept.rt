@@ -2,6 +2,7 @@
 ghost use Rattle.std.specs.Prelude.{◌≡◌, ◌&&◌, bytes_eq, IfOk};
 ghost use Rattle.std.specs.Cmp.Lexicographic.{pointwise};
 ghost use Rattle.s3_machine.specs.Uploads.{same_listed};
+ghost use Rattle.s3_native.specs.Forgetting.{is_older};
 
 use gate_base::{Bytes, Copying, List, Memory};
 use s3_machine::{Listed, same_list};
@@ -36,6 +37,13 @@ impl NativeKept {
             && pointwise same_listed self.now.list list.now) }
     {
         self.key.as_slice() == key && same_list(self.list.as_slice(), list)
+    }
+
+    /// Whether its moment is before this one.
+    pub(crate) fn is_older(&self, before: u64) -> bool
+        ensures { result ≡ is_older before self.now }
+    {
+        self.moment < before
     }
 
     pub(crate) fn etag(&self) -> Result<Bytes, Memory>

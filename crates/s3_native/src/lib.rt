@@ -2,8 +2,10 @@
 #![tactic(auto)]
 
 mod copies;
+mod forgetting;
 mod kept;
 mod listing;
+mod named;
 mod native;
 mod numbered;
 mod upload;

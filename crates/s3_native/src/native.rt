@@ -1,5 +1,5 @@
 //! The machine's running form: plain and slow, for tests.
-ghost use Rattle.std.specs.Prelude.{◌≡◌, IfOk, OnErr, OnOk};
+ghost use Rattle.std.specs.Prelude.{◌≡◌, ◌-◌, ◌^◌, IfOk, OnErr, OnOk, length, min};
 ghost use Rattle.std.specs.FinMap.{empty};
 ghost use Rattle.gate_base.specs.Maps.{adjust};
 ghost use Rattle.s3_machine.specs.declared.operation.Op.TheVariants.{
@@ -18,11 +18,13 @@ ghost use Rattle.s3_machine.specs.declared.operation.Op.TheVariants.{
   DeleteObjects,
   GetObjectAcl,
 };
+ghost use Rattle.s3_native.specs.Forgetting.{Forgets, all_old};
 ghost use Rattle.s3_native.specs.NewIds.{GivesFirstId};
 ghost use Rattle.s3_machine.specs.Step.{IsProper, S3Step, bucket_items, drop_object, drop_objects, is_other_acl, may_read, put_object, with_acl};
 
 use crate::kept::NativeKept;
 use crate::listing::native_listed_items;
+use crate::named::Named;
 use crate::upload::NativeUpload;
 use gate_base::{Bytes, Caller, Copying, List, Memory};
 use name_table::Table;
@@ -169,7 +171,7 @@ pub(crate) struct NativeBucket {
     acl: Acl,
     pub(crate) objects: Table<NativeObject>,
     pub(crate) uploads: Table<NativeUpload>,
-    pub(crate) kept: Table<NativeKept>,
+    pub(crate) kept: Named<NativeKept>,
 }
 
 impl Model for NativeBucket {
@@ -185,8 +187,9 @@ impl Model for NativeBucket {
 }
 
 impl NativeBucket {
-    ghost use Rattle.std.specs.Prelude.{OnOk, option_copied};
-    ghost use Rattle.std.specs.FinMap.{get};
+    ghost use Rattle.std.specs.Prelude.{OnOk, count_by, option_copied};
+    ghost use Rattle.std.specs.FinMap.{entries, get};
+    ghost use Rattle.s3_native.specs.Forgetting.{is_older, newer_in};
     ghost use Rattle.s3_native.specs.Native.{shown};
     ghost use Rattle.s3_machine.specs.Step.{drop_object, drop_objects, is_bare, listing, new_bucket, put_object, with_acl};
 
@@ -198,7 +201,7 @@ impl NativeBucket {
             acl,
             objects: Table::new(alloc),
             uploads: Table::new(alloc),
-            kept: Table::new(alloc),
+            kept: Named::new(alloc),
         }
     }
 
@@ -263,6 +266,20 @@ impl NativeBucket {
         self.objects.drop_at(key);
     }
 
+    /// How many kept completions have a moment before this one.
+    pub(crate) fn count_older(&self, before: u64) -> u64
+        ensures { result ≡ count_by (λ entry. is_older before entry.1) (entries self.now.kept) }
+    {
+        self.kept.count_older(before)
+    }
+
+    /// Drops those.
+    pub(crate) fn drop_older(&mut self, before: u64)
+        ensures { self.new ≡ newer_in before self.old }
+    {
+        self.kept.drop_older(before);
+    }
+
     fn drop_all(&mut self, keys: &[Bytes])
         ensures { self.new ≡ drop_objects keys.now self.old }
     {
@@ -274,7 +291,7 @@ impl NativeBucket {
 
 /// Each bucket with the moment at which it was made, in the order of the names.
 fn native_bucket_items(
-    buckets: &Table<NativeBucket>,
+    buckets: &Named<NativeBucket>,
     alloc: Global,
 ) -> Result<List<BucketItem>, Memory>
     ensures { IfOk result (λ items. items ≡ bucket_items buckets.now) }
@@ -291,7 +308,7 @@ fn native_bucket_items(
 
 /// Replaces the access control list of a bucket, if it is there.
 #[tactic(auto, using(name_table::proofs::lemmas::Tables::nothing_there))]
-fn set_acl(buckets: &mut Table<NativeBucket>, bucket: &[u8], acl: Acl)
+fn set_acl(buckets: &mut Named<NativeBucket>, bucket: &[u8], acl: Acl)
     ensures { buckets.new ≡ adjust bucket.now (with_acl acl) buckets.old }
 {
     if let Some(found) = buckets.get_mut(bucket) {
@@ -302,7 +319,7 @@ fn set_acl(buckets: &mut Table<NativeBucket>, bucket: &[u8], acl: Acl)
 /// Puts an object into a bucket, in place of what stands under its key. Where memory runs out, all is as before.
 #[tactic(auto, using(name_table::proofs::lemmas::Tables::nothing_there))]
 pub(crate) fn put_object(
-    buckets: &mut Table<NativeBucket>,
+    buckets: &mut Named<NativeBucket>,
     bucket: &[u8],
     key: &[u8],
     object: NativeObject,
@@ -319,7 +336,7 @@ pub(crate) fn put_object(
 
 /// Takes away the object of a key in a bucket, if there is one.
 #[tactic(auto, using(name_table::proofs::lemmas::Tables::nothing_there))]
-fn drop_native_object(buckets: &mut Table<NativeBucket>, bucket: &[u8], key: &[u8])
+fn drop_native_object(buckets: &mut Named<NativeBucket>, bucket: &[u8], key: &[u8])
     ensures { buckets.new ≡ adjust bucket.now (drop_object key.now) buckets.old }
 {
     if let Some(found) = buckets.get_mut(bucket) {
@@ -329,7 +346,7 @@ fn drop_native_object(buckets: &mut Table<NativeBucket>, bucket: &[u8], key: &[u
 
 /// Takes away the objects of these keys in a bucket, as far as there are any.
 #[tactic(auto, using(name_table::proofs::lemmas::Tables::nothing_there))]
-fn drop_native_objects(buckets: &mut Table<NativeBucket>, bucket: &[u8], keys: &[Bytes])
+fn drop_native_objects(buckets: &mut Named<NativeBucket>, bucket: &[u8], keys: &[Bytes])
     ensures { buckets.new ≡ adjust bucket.now (drop_objects keys.now) buckets.old }
 {
     if let Some(found) = buckets.get_mut(bucket) {
@@ -342,7 +359,7 @@ fn drop_native_objects(buckets: &mut Table<NativeBucket>, bucket: &[u8], keys: &
 pub struct Native {
     pub(crate) alloc: Global,
     pub(crate) settings: Settings,
-    pub(crate) buckets: Table<NativeBucket>,
+    pub(crate) buckets: Named<NativeBucket>,
 }
 
 impl Model for Native {
@@ -363,7 +380,7 @@ impl Native {
         ensures settings { result.settings ≡ settings }
         ensures state { result.state ≡ empty }
     {
-        let buckets = Table::new(alloc);
+        let buckets = Named::new(alloc);
         Native {
             alloc,
             settings,
@@ -419,6 +436,18 @@ impl Native {
             Op::CopyObject { .. } | Op::CopyPart { .. } => self.step_copy(op, label),
             _ => self.step_upload(op, label),
         }
+    }
+
+    /// Drops each kept completion with a moment before this one, and answers how many those are; the most that the type has, where
+    /// there are more. It takes no memory.
+    pub fn forget(&mut self, before: u64) -> u64
+        ensures settings { self.new.settings ≡ self.old.settings }
+        ensures forgets { Forgets before self.old.state self.new.state }
+        ensures count { result ≡ min (length (all_old before self.old.state)) (2 ^ 64 - 1) }
+    {
+        let count = self.buckets.count_older_in_each(before);
+        self.buckets.drop_older_in_each(before);
+        count
     }
 
     fn list_buckets(&self, label: &Label) -> Result<Reply, Memory>

@@ -34,6 +34,7 @@ ghost use Rattle.s3_native.specs.NewIds.{GivesFirstId, IsFirstNewId};
 
 use crate::kept::NativeKept;
 use crate::listing::{first_native_items, is_native_listing_cut};
+use crate::named::Named;
 use crate::native::{Native, NativeBucket, NativeObject};
 use crate::upload::{NativePart, NativeUpload};
 use gate_base::{Bytes, Copying, List, Memory};
@@ -267,7 +268,7 @@ impl NativeBucket {
 
 /// Opens an upload in a bucket. Where memory runs out, all is as before.
 fn open_upload(
-    buckets: &mut Table<NativeBucket>,
+    buckets: &mut Named<NativeBucket>,
     bucket: &[u8],
     id: &[u8],
     upload: NativeUpload,
@@ -284,7 +285,7 @@ fn open_upload(
 
 /// Puts a part into an upload of a bucket. Where memory runs out, all is as before.
 fn put_part(
-    buckets: &mut Table<NativeBucket>,
+    buckets: &mut Named<NativeBucket>,
     bucket: &[u8],
     id: &[u8],
     number: u32,
@@ -301,7 +302,7 @@ fn put_part(
 }
 
 /// Takes away an upload of a bucket, if it is there.
-fn drop_native_upload(buckets: &mut Table<NativeBucket>, bucket: &[u8], id: &[u8])
+fn drop_native_upload(buckets: &mut Named<NativeBucket>, bucket: &[u8], id: &[u8])
     ensures { buckets.new ≡ adjust bucket.now (drop_upload id.now) buckets.old }
 {
     if let Some(found) = buckets.get_mut(bucket) {
@@ -311,7 +312,7 @@ fn drop_native_upload(buckets: &mut Table<NativeBucket>, bucket: &[u8], id: &[u8
 
 /// Closes an upload of a bucket by its completion. Where memory runs out, all is as before.
 fn close_native_upload(
-    buckets: &mut Table<NativeBucket>,
+    buckets: &mut Named<NativeBucket>,
     bucket: &[u8],
     key: &[u8],
     id: &[u8],
