@@ -6,6 +6,8 @@ mod adapters;
 #[cfg(test)]
 mod log_lines;
 #[cfg(test)]
+mod logged_store;
+#[cfg(test)]
 mod loopback;
 #[cfg(test)]
 mod pieces;

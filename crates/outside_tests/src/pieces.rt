@@ -89,7 +89,7 @@ fn serve<L: Line<NoCount>, S: Read + Write>(rt: &impl Abort, line: &mut L, clien
 }
 
 /// Asserts that exactly these bytes come, piece behind piece.
-fn comes<S: Read>(rt: &impl Abort, stream: &mut S, bytes: &[u8]) {
+pub(crate) fn comes<S: Read>(rt: &impl Abort, stream: &mut S, bytes: &[u8]) {
     let mut buf = [0; 100];
     let buf = &mut buf[..bytes.len().min(100)];
     stream.read_exact(buf).expect(rt, "all bytes");
