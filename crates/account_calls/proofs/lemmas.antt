@@ -27,4 +27,5 @@ pub mod SideNames
 pub mod Sides
 pub mod SubParts
 pub mod Told
+pub mod Turned
 pub mod Walk

@@ -1,7 +1,7 @@
 -- What writes do to a line, one after another.
 use Rattle.std.proofs.Common.{Bool, false, IsTrue, refl, ◌∙◌, arith}
 use Rattle.gate_base.specs.Line.{LineModel, OnlyWrites}
-use Rattle.gateway.proofs.Looping.{line_serves_on}
+use Rattle.http_service.proofs.lemmas.Lines.{line_serves_on}
 
 pub writes_none : (line : LineModel) → IsTrue line.is_open → OnlyWrites false line line
 writes_none line is_open = record {

@@ -1,5 +1,5 @@
--- What the account represents at each number of calls of a run, and of one run after another: the requests that are counted
--- there, in order through the machine's step, lead to it.
+-- What the account represents at each number of calls of a run: the requests that are counted there, in order through the
+-- machine's step, lead to it.
 use Rattle.std.specs.Prelude.{◌≡◌, ◌≤◌, ◌<◌, ℕ, List, [], ◌∷◌, length, take, Option, None, Some}
 use Rattle.std.proofs.Common.{refl, sym, ap, subst, ◌∙◌, inl, inr, arith}
 use Rattle.std.proofs.lemmas.Bool.{cases_lt}
@@ -10,13 +10,11 @@ use Rattle.s3_machine.specs.declared.operation.Settings.{Settings}
 use Rattle.s3_machine.specs.State.{State}
 use Rattle.swift_calls.specs.History.{History}
 use Rattle.upload_records.specs.Native.{s3_state}
-use Rattle.upload_records.specs.Consistent.{IsConsistent}
 use Rattle.account_calls.specs.Answers.{parts_of, steps_of, StepsThrough, IsStage, before_step, part_way, after_step, Passes}
 use Rattle.gateway.specs.Exchange.{Asked, Span, IsPiece}
 use Rattle.gateway.specs.Stands.{Follows, AllPass, SpanPasses}
-use Rattle.gateway.specs.Life.{CountedAt, IsWholeOrNone, Counted, After, Work, Promises, answers_all, keeps_state, Worked, Lives, AfterLives, OneRun, ManyRuns, SentIsCounted, pieces_of}
+use Rattle.gateway.specs.Life.{CountedAt, IsWholeOrNone, Counted, After, OneRun, SentIsCounted, pieces_of}
 use Rattle.gateway.proofs.lemmas.Counted.{replies_take}
-use Rattle.gateway.proofs.lemmas.Standing.{stands_throughout}
 
 -- ---- one request
 
@@ -128,26 +126,6 @@ one_run settings h (span ∷ spans) entry exit k (begins, settled, committed, en
         one_run settings h spans span.to exit k then rest past to,
       )
     ])
-
--- ---- one run after another
-
--- what a run promises is so up to where it was stopped, and the account is consistent there
-worked : {h : History} {entry stop exit : ℕ} {work : Work} → IsConsistent (h.account_at entry) → entry ≤ stop → stop ≤ exit → Promises h entry exit work
-    → IsConsistent (h.account_at stop) × Worked work stop (s3_state (h.account_at entry)) (s3_state (h.account_at stop))
-worked {h = h} {entry = entry} {stop = stop} {exit = exit} sound since until (answers_all settings spans follows passes) = (
-  (stands_throughout settings h spans entry exit sound follows passes stop since until).sound,
-  one_run settings h spans entry exit stop follows passes since until,
-)
-worked {stop = stop} sound since until (keeps_state still) = (still.sound stop since until, still.same stop since until)
-
-pub many_runs : ManyRuns
-unfolding Lives AfterLives
-many_runs old new [] sound same = (subst IsConsistent (sym same) sound, ap s3_state same)
-many_runs old new (life ∷ lives) sound (begins, is, then) =
-    let here = subst IsConsistent (sym begins) sound in
-    let done = worked here is.since is.until (is.keeps here) in
-    let later = many_runs (life.history.account_at life.stop) new lives done.0 then in
-    (later.0, (s3_state (life.history.account_at life.stop), subst (λ tree. Worked life.work life.stop (s3_state tree) (s3_state (life.history.account_at life.stop))) begins done.1, later.1))
 
 -- ---- what was sent
 

@@ -16,7 +16,7 @@ use Rattle.gateway.specs.declared.ended.Ended.TheVariants.{End, Closed, CutShort
 use Rattle.gateway.specs.declared.handle.Handled.TheVariants.{Served, Broken, Parted}
 use Rattle.gateway.specs.Exchange.{ReplyRelation, StoreCursor, Sends, SendsPart}
 use Rattle.gateway.specs.Request.{Request, refused_request, asks_of}
-use Rattle.gateway.specs.declared.received.Received.TheVariants as received
+use Rattle.http_service.specs.declared.received.Received.TheVariants as received
 use Rattle.gateway.specs.Connection.{Progress, ConnectionCursor, progress, cursor, OwedIsSent, Resolves, read, rejected, over, cut, served, unread, unheard, untold, broken, parted}
 use Rattle.gateway.specs.Handled.{HandledOnce, HandledEnds}
 use Rattle.gateway.specs.Serving.{NextOne, EndsUnread}

@@ -19,12 +19,11 @@ use Rattle.account_calls.specs.declared.fault.PlanFault.{PlanFault}
 use Rattle.account_calls.specs.declared.fault.PlanFault.TheVariants as fault
 use Rattle.account_calls.specs.declared.state.Known.{Known}
 use Rattle.account_calls.specs.Answers.{most_calls, steps_of, is_old_if_failed, is_old_if_out_of_memory, OldIf, machine, unavailable, memory, Answers, pieces}
-use Rattle.account_calls.specs.Calls.{always, amount, Any, Asks, Given, GoesOn, Keeps, Met, Tells}
+use Rattle.account_calls.specs.Calls.{always, amount, Any, Asks, Given, Keeps, Met, Tells}
 use Rattle.account_calls.specs.Plan.{reply_of}
 use Rattle.account_calls.specs.Known.{IsKnown}
 use Rattle.account_calls.specs.Stutters.{Stutters, OldBefore, LastFailed}
 use Rattle.account_calls.proofs.lemmas.Agree.{quiet_agree, quiet_trans, failed_after, passes_at_once, last_within}
-use Rattle.account_calls.proofs.lemmas.Idle.{goes_trans}
 use Rattle.account_calls.proofs.lemmas.Told.{told_by, told_none, told_trans, met_here, same_here}
 use Rattle.planner.specs.declared.reading.Found.{Found}
 use Rattle.planner.specs.Reading.{found_reply, HasFound, AreFirst, HasBody, TellsPiece}
@@ -170,9 +169,6 @@ module _ {settings : Settings} {op : Op} {label : Label} {found : Found} {old no
 -- and another call was made, which told nothing
 module _ {settings : Settings} {op : Op} {label : Label} {found : Found} {old now new : History} {was : Known} {done : List ℕ} {count : ℕ} {f : PlanFault} {T : Type 0} {P : State → T → Type 0}
     (reads : Reads settings op label found old now was done count) (asks : Asks (always 1) now new (Given (HasFound found)) (Tells P) (Err f)) where
-  abbrev on_now : GoesOn old new
-  on_now = goes_trans reads.readied.on (goes_trans reads.told.on asks.grows.on)
-
   module _ (met : Met (IsKnown was) old) where
     now_met : Met (Given (HasFound found)) now
     now_met =

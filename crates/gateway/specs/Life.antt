@@ -1,5 +1,4 @@
--- The requests of a run in order, and of one run after another: what the account represents where a run was stopped.
--- Source: this profile.
+-- The requests of a run in order: what the account represents where it was stopped. Source: this profile.
 use Rattle.std.specs.Prelude.{◌≡◌, ◌≢◌, ◌≤◌, ◌<◌, ◌⊎◌, ℕ, List, [], ◌∷◌, ◌++◌, All, Option, None, Some}
 use Rattle.gate_base.specs.declared.outside.Piece.{Piece}
 use Rattle.s3_machine.specs.declared.code.Code.TheVariants.{ServiceUnavailable}
@@ -10,12 +9,10 @@ use Rattle.s3_machine.specs.declared.operation.Reply.TheVariants.{Refused, Memor
 use Rattle.s3_machine.specs.declared.operation.Settings.{Settings}
 use Rattle.s3_machine.specs.State.{State}
 use Rattle.s3_machine.specs.Step.{S3Step}
-use Rattle.swift_calls.specs.Account.{SwiftAccount}
 use Rattle.swift_calls.specs.History.{History}
 use Rattle.upload_records.specs.Native.{s3_state}
 use Rattle.upload_records.specs.Consistent.{IsConsistent}
 use Rattle.account_calls.specs.Answers.{parts_of, steps_of, IsStage}
-use Rattle.account_calls.specs.Stutters.{Stutters}
 use Rattle.gateway.specs.declared.ended.Ended.{Ended}
 use Rattle.s3_requests.specs.declared.meant.Meant.TheVariants as meant
 use Rattle.gateway.specs.Request.{Request}
@@ -48,53 +45,10 @@ unfoldable pub After : Settings → ℕ → State → List Span → State → Ty
 After settings k old [] new = new ≡ old
 After settings k old (span ∷ spans) new = (middle : State) × Counted settings k span span.asked old middle × After settings k middle spans new
 
--- what a run does to the account: it answers requests, or it leaves the state
-pub data Work : Type 0 where
-  answering : Settings → List Span → Work
-  upkeep : Work
-
--- a run that was stopped, or had ended, after `stop` calls of its store; one that was stopped would have gone on to `exit`
-pub record Life : Type 0 where
-  pub work : Work
-  pub history : History
-  pub entry : ℕ
-  pub stop : ℕ
-  pub exit : ℕ
-
--- what a run promises between two numbers of calls, where its account is consistent at the first
-pub data Promises (h : History) (entry exit : ℕ) : Work → Type 0 where
-  answers_all : (settings : Settings) (spans : List Span) → Follows entry spans exit → AllPass settings h spans → Promises h entry exit (answering settings spans)
-  keeps_state : Stutters h entry exit → Promises h entry exit upkeep
-
-pub record IsLife (life : Life) : Type 0 where
-  pub since : life.entry ≤ life.stop
-  pub until : life.stop ≤ life.exit
-  pub keeps : IsConsistent (life.history.account_at life.entry) → Promises life.history life.entry life.exit life.work
-
--- each run begins on what the one before it left where it was stopped
-unfoldable pub Lives : SwiftAccount → List Life → SwiftAccount → Type 0
-Lives old [] new = new ≡ old
-Lives old (life ∷ lives) new = (life.history.account_at life.entry ≡ old) × IsLife life × Lives (life.history.account_at life.stop) lives new
-
--- what a run's work up to the number k of calls makes of the state
-abbrev pub Worked : Work → ℕ → State → State → Type 0
-Worked (answering settings spans) k old new = After settings k old spans new
-Worked upkeep k old new = new ≡ old
-
--- the work of each run up to where it was stopped, run after run, leads from the old state to the new one
-unfoldable pub AfterLives : State → List Life → State → Type 0
-AfterLives old [] new = new ≡ old
-AfterLives old (life ∷ lives) new = (middle : State) × Worked life.work life.stop old middle × AfterLives middle lives new
-
 -- over one run: at each number of calls the counted requests give the state
 abbrev pub OneRun : Type 0
 OneRun = (settings : Settings) (h : History) (spans : List Span) (entry exit k : ℕ) → Follows entry spans exit → AllPass settings h spans → entry ≤ k → k ≤ exit
     → After settings k (s3_state (h.account_at entry)) spans (s3_state (h.account_at k))
-
--- over one run after another: so they do from the first account to the last, which is consistent
-abbrev pub ManyRuns : Type 0
-ManyRuns = (old new : SwiftAccount) (lives : List Life) → IsConsistent old → Lives old lives new
-    → IsConsistent new × AfterLives (s3_state old) lives (s3_state new)
 
 -- at each number of calls of a run the account is consistent, and one that the request which has the number goes through
 abbrev pub StandsAll : Type 0

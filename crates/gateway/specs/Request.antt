@@ -37,8 +37,8 @@ use Rattle.gateway.specs.declared.ended.Ended.{Ended}
 use Rattle.gateway.specs.declared.ended.Ended.TheVariants.{Closed, Refused}
 use Rattle.s3_requests.specs.declared.meant.Meant.{Meant}
 use Rattle.s3_requests.specs.declared.meant.Meant.TheVariants as meant
-use Rattle.gateway.specs.declared.received.Received.{Received}
-use Rattle.gateway.specs.declared.received.Received.TheVariants as received
+use Rattle.http_service.specs.declared.received.Received.{Received}
+use Rattle.http_service.specs.declared.received.Received.TheVariants as received
 use Rattle.gateway.specs.declared.service.Service.{Service}
 use Rattle.s3_requests.specs.Meaning.{meaning_of}
 

@@ -6,13 +6,13 @@ ghost use Rattle.gateway.specs.Handled.{HandledOnce, EndsWith, NotFailedIfServed
 ghost use Rattle.gateway.specs.World.{world, progress_of, ServesOver};
 
 use crate::label::{next_label, sent_by};
-use crate::received::Received;
 use crate::reply::reply_to;
 use crate::resolve::resolve;
 use crate::send::send_reading;
 use crate::{Ended, Service};
 use account_calls::Known;
 use gate_base::{Clock, Draws, Line, drop};
+use http_service::Received;
 use std::alloc::Global;
 use swift_calls::Swift;
 

@@ -1,6 +1,6 @@
 //! Laws of the definitions, each the contract of a function that does nothing.
 ghost use Rattle.gateway.specs.Laws.{CalendarsAgree, FailedStoreRose, FoundConsistent};
-ghost use Rattle.gateway.specs.Life.{CountedWhole, ManyRuns, OneRun, SentIsCounted, StandsAll};
+ghost use Rattle.gateway.specs.Life.{CountedWhole, OneRun, SentIsCounted, StandsAll};
 
 /// Through a run the account is consistent after each call, and goes through the steps of the request that has the call.
 pub fn law_stands_all()
@@ -11,11 +11,6 @@ pub fn law_stands_all()
 /// the state at its entry to the state.
 pub fn law_one_run()
     ensures { OneRun }
-{}
-
-/// Over a list of runs, each begun on what the one before it left where it was stopped, so do the counted requests of all.
-pub fn law_many_runs()
-    ensures { ManyRuns }
 {}
 
 /// An operation that counts as one step is counted at a number of calls where it was taken and its commit point is by then, and

@@ -5,7 +5,6 @@ mod ended;
 mod handle;
 mod label;
 mod laws;
-mod received;
 mod reply;
 mod resolve;
 mod resolved;
@@ -17,7 +16,7 @@ mod write;
 pub use ended::Ended;
 pub use laws::{
     law_calendars_agree, law_counted_whole, law_failed_store_rose, law_found_consistent,
-    law_many_runs, law_one_run, law_sent_is_counted, law_stands_all,
+    law_one_run, law_sent_is_counted, law_stands_all,
 };
 pub use resolved::ResolvedRequest;
 pub use serve::serve_connection;

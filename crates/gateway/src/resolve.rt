@@ -14,11 +14,11 @@ ghost use Rattle.gateway.specs.Serving.{is_failed_step};
 ghost use Rattle.gateway.specs.declared.ended.Ended.TheVariants as ended;
 ghost use Rattle.s3_requests.specs.declared.meant.Meant.TheVariants as variant;
 
-use crate::received::Received;
 use crate::{Ended, ResolvedRequest, Service};
 use chunked::ChunkedForm;
 use extended::{Sender, chunked_form, extended_meaning, open_chunked, refused_by};
 use gate_base::{Caller, Memory};
+use http_service::Received;
 use http_wire::{Kind, Message, closes};
 use presign::{QueryRefusal, is_presigned, verify_query, without_signature};
 use s3_machine::{Code, Settings};

@@ -10,11 +10,11 @@ ghost use Rattle.gateway.specs.Serving.{is_failed_step, NextOne, EndsUnread};
 ghost use Rattle.gateway.specs.World.{world, progress_of, start_of, cursor_of, ServesOver};
 
 use crate::handle::{Handled, handle_request};
-use crate::received::Received;
 use crate::write::{Written, write_memory_reply};
 use crate::{Ended, Service};
 use account_calls::Known;
 use gate_base::{Clock, Draws, Line};
+use http_service::Received;
 use http_wire::{Got, ReadFault, Reader};
 use std::alloc::Global;
 use swift_calls::Swift;

@@ -5,21 +5,17 @@ use Rattle.swift_calls.specs.History.{History}
 use Rattle.upload_records.specs.Native.{s3_state}
 use Rattle.upload_records.specs.Consistent.{IsConsistent}
 use Rattle.sweep.specs.Forgetting.{forgotten}
-use Rattle.gateway.specs.Life.{OneRun, Work, Promises, answers_all, keeps_state, Worked}
+use Rattle.gateway.specs.Life.{OneRun}
 use Rattle.gateway.proofs.lemmas.Standing.{stands_throughout}
-use Rattle.gateway_cmd.specs.Lives.{RunWork, usual, forgetting, RunPromises, RunWorked, RunLives, AfterRuns, OneRunOfAny, ManyRunsOfAll, GoneAreCounted, gone_between}
-
-usually : OneRun → {h : History} {entry stop exit : ℕ} (work : Work) → IsConsistent (h.account_at entry) → entry ≤ stop → stop ≤ exit → Promises h entry exit work
-    → IsConsistent (h.account_at stop) × Worked work stop (s3_state (h.account_at entry)) (s3_state (h.account_at stop))
-usually one {h = h} {entry = entry} {stop = stop} {exit = exit} work sound since until (answers_all settings spans follows passes) = (
-  (stands_throughout settings h spans entry exit sound follows passes stop since until).sound,
-  one settings h spans entry exit stop follows passes since until,
-)
-usually one {stop = stop} work sound since until (keeps_state still) = (still.sound stop since until, still.same stop since until)
+use Rattle.gateway_cmd.specs.Lives.{RunWork, answering, upkeep, forgetting, RunPromises, RunWorked, RunLives, AfterRuns, OneRunOfAny, ManyRunsOfAll, GoneAreCounted, gone_between}
 
 by_work : OneRun → GoneAreCounted → (h : History) {entry stop exit : ℕ} (work : RunWork) → IsConsistent (h.account_at entry) → entry ≤ stop → stop ≤ exit → RunPromises h entry exit work
     → IsConsistent (h.account_at stop) × RunWorked work stop (s3_state (h.account_at entry)) (s3_state (h.account_at stop))
-by_work one counted h (usual work) sound since until promises = usually one work sound since until promises
+by_work one counted h {entry = entry} {stop = stop} {exit = exit} (answering settings spans) sound since until (follows, passes) = (
+  (stands_throughout settings h spans entry exit sound follows passes stop since until).sound,
+  one settings h spans entry exit stop follows passes since until,
+)
+by_work one counted h {stop = stop} upkeep sound since until still = (still.sound stop since until, still.same stop since until)
 by_work one counted h {entry = entry} {stop = stop} (forgetting before) sound since until forgets =
     let old = s3_state (h.account_at entry) in
     let is = forgets.is stop since until in

@@ -1,6 +1,4 @@
-pub mod Counting
 pub mod Exits
-pub mod Faulty
 pub mod Gone
 pub mod Lasting
 pub mod Recoveries

@@ -7,14 +7,14 @@ use Rattle.gate_base.specs.Causes.{Rose}
 use Rattle.swift_calls.specs.History.{History, Extends}
 use Rattle.upload_records.specs.Consistent.{IsConsistent}
 use Rattle.gateway.specs.declared.service.Service.{Service}
-use Rattle.gateway.specs.Exchange.{ReplyRelation, StoreCursor, Span, IsKnownOf, Replies, RepliesBy, CountedReplies, FaultFreeReplies}
+use Rattle.gateway.specs.Exchange.{ReplyRelation, StoreCursor, Span, Replies, RepliesBy, CountedReplies, FaultFreeReplies}
 use Rattle.gateway.specs.Connection.{is_failed_end}
 use Rattle.gateway.specs.Stands.{Follows, AllPass, StandsThroughout}
 use Rattle.gateway.proofs.lemmas.Counted.{replies_take}
 use Rattle.gateway.proofs.lemmas.Ending.{no_store_end}
 use Rattle.gateway.proofs.lemmas.Order.{follows_none, follows_append, connection_trace_order, connection_trace_order_faults, connection_trace_follow}
 use Rattle.gateway.proofs.lemmas.Map.{Between, between_ends, FollowsBetween, connection_trace_map, by_agree, fault_free_map}
-use Rattle.gateway.proofs.lemmas.Passing.{all_pass_none, all_pass_append, connection_trace_pass, connection_trace_sound, connection_trace_known}
+use Rattle.gateway.proofs.lemmas.Passing.{all_pass_none, all_pass_append, connection_trace_pass}
 use Rattle.gateway.proofs.lemmas.Standing.{stands_throughout}
 use Rattle.gateway_cmd.specs.Laws.{Unbroken, none_served, one_more}
 use Rattle.gateway_cmd.specs.Run.{RunCursor, ServesNext, RunTrace, none, more}
@@ -132,16 +132,6 @@ module _ {service : Service} {h : History} where
   pub run_trace_pass : {old new : RunCursor} {spans : List Span} → RunTrace service (Replies service.settings h) old spans new → AllPass service.settings h spans
   run_trace_pass (none cursor) = all_pass_none service.settings h
   run_trace_pass (more old middle new spans next trace serves) = all_pass_append service.settings h spans next (run_trace_pass trace) (connection_trace_pass serves.trace)
-
-  -- it is left consistent
-  pub run_trace_sound : {old new : RunCursor} {spans : List Span} → IsConsistent (h.account_at old.progress.store.number) → RunTrace service (Replies service.settings h) old spans new → IsConsistent (h.account_at new.progress.store.number)
-  run_trace_sound sound (none cursor) = sound
-  run_trace_sound sound (more old middle new spans next trace serves) = connection_trace_sound (run_trace_sound sound trace) serves.trace
-
-  -- and as it is known to be
-  pub run_trace_known : {old new : RunCursor} {spans : List Span} → IsKnownOf h old.progress.store → RunTrace service (Replies service.settings h) old spans new → IsKnownOf h new.progress.store
-  run_trace_known known (none cursor) = known
-  run_trace_known known (more old middle new spans next trace serves) = connection_trace_known (run_trace_known known trace) serves.trace
 
   -- at each number it is consistent, and one that the request which has the number goes through
   pub run_trace_stands : {old new : RunCursor} {spans : List Span} → IsConsistent (h.account_at old.progress.store.number) → RunTrace service (Replies service.settings h) old spans new

@@ -1,5 +1,5 @@
 -- A session, connection by connection, over a history that grows, and the run that it is.
-use Rattle.std.proofs.Common.{◌≡◌, ◌≢◌, ◌++◌, ◌∷◌, ℕ, Bool, true, false, List, [], Option, None, Some, if◌then◌else◌, slice_set, ◌-◌, refl, sym, ap, subst, inl, ◌∙◌, arith}
+use Rattle.std.proofs.Common.{◌≡◌, ◌≢◌, ◌++◌, ◌∷◌, ℕ, Bool, true, false, List, [], Option, None, Some, refl, sym, ap, subst, inl, ◌∙◌, arith}
 use Rattle.gate_base.specs.Line.{LineModel, TranscriptServes}
 use Rattle.gate_base.specs.Told.{SourceModel}
 use Rattle.gate_base.specs.Transcript.{Begins}
@@ -11,7 +11,7 @@ use Rattle.sigv4.specs.Keys.{keys_of, are_keys}
 use Rattle.sigv4.specs.declared.keys.AccessKey.{AccessKey}
 use Rattle.sign_cmd.specs.Signing.{SignsOn}
 use Rattle.account_calls.specs.declared.state.Known.{Known}
-use Rattle.account_calls.specs.declared.state.Known.TheVariants.{Settled, Unsure}
+use Rattle.account_calls.specs.declared.state.Known.TheVariants.{Unsure}
 use Rattle.account_calls.specs.Calls.{GoesOn, Met, Any}
 use Rattle.account_calls.specs.Known.{IsKnown}
 use Rattle.gateway.specs.declared.ended.Ended.{Ended as Close}
@@ -21,17 +21,20 @@ use Rattle.gateway.specs.Exchange.{ReplyRelation, Span, store_cursor, RepliesBy,
 use Rattle.gateway.specs.Stands.{Stands}
 use Rattle.gateway.specs.World.{World, world, progress_of, start_of, IsObservable, ServesOver}
 use Rattle.gateway.proofs.lemmas.Standing.{stands_throughout}
-use Rattle.gateway.proofs.lemmas.Worlds.{serves_none}
+use Rattle.gateway.proofs.lemmas.Worlds.{serves_none, unsure_met}
+use Rattle.http_service.specs.Running.{LineServesAll}
+use Rattle.http_service.specs.declared.run.Stopped.{Stopped}
+use Rattle.http_service.specs.declared.run.Stopped.TheVariants.{Done, Line}
+use Rattle.http_service.proofs.lemmas.NoneFaulty.{none_faulty_of_none, faulty_then}
 use Rattle.gateway_cmd.specs.Facts.{Fits}
 use Rattle.gateway_cmd.specs.declared.status.RunOutcome.{RunOutcome}
 use Rattle.gateway_cmd.specs.declared.status.RunOutcome.TheVariants.{Plain}
 use Rattle.gateway_cmd.specs.declared.status.Status.{Status}
-use Rattle.gateway_cmd.specs.declared.status.Status.TheVariants.{Done, Usage, Line, Store, Request, Memory}
+use Rattle.gateway_cmd.specs.declared.status.Status.TheVariants.{Usage, Memory}
 use Rattle.gateway_cmd.specs.Report.{is_failed_run, is_done}
-use Rattle.gateway_cmd.specs.Tasks.{settings_of, Serving, service_of, Task, to_serve}
+use Rattle.gateway_cmd.specs.Tasks.{settings_of, Serving, service_of, Task}
 use Rattle.gateway_cmd.specs.Run.{run_cursor_of, RunTrace, none, more, RunTraces, RunTraced, RunStands, RunRefines}
-use Rattle.gateway_cmd.specs.Session.{is_end, NextCursor, LineServed, LineServesAll, RunServes, RunSigns, RunPresigns, IsIdle, out_of_memory, keys_refused}
-use Rattle.gateway_cmd.proofs.Faulty.{none_faulty_of_none}
+use Rattle.gateway_cmd.specs.Session.{NextCursor, LineServed, RunServes, RunSigns, RunPresigns, IsIdle, out_of_memory, keys_refused}
 use Rattle.gateway_cmd.proofs.RunTraces.{run_trace_agree, run_trace_follow, run_trace_pass, run_trace_stands}
 
 -- ---- the connections served since the run began
@@ -50,17 +53,11 @@ run_traces_more all service old middle new kept traces next =
     (before.0 ++ next.0, more (run_cursor_of old) (run_cursor_of middle) (run_cursor_of new) before.0 next.0 before.1 next.1)
 
 -- nothing more
-pub run_traces_end : (all : Bool) (service : Service) (old middle new : World) (status : Status) → Where all (Extends middle.store.called middle.store new.store) → RunTraces service (RepliesBy all service.settings middle.store) old middle
-    → NextCursor service (RepliesBy all service.settings new.store) (Some status) middle new → RunTraces service (RepliesBy all service.settings new.store) old new
-run_traces_end all service old middle new status kept traces same =
+pub run_traces_end : (all : Bool) (service : Service) (old middle new : World) (stopped : Stopped) → Where all (Extends middle.store.called middle.store new.store) → RunTraces service (RepliesBy all service.settings middle.store) old middle
+    → NextCursor service (RepliesBy all service.settings new.store) (Some stopped) middle new → RunTraces service (RepliesBy all service.settings new.store) old new
+run_traces_end all service old middle new stopped kept traces same =
     let before = run_traces_agree all service old middle new kept traces in
     (before.0, subst (RunTrace service (RepliesBy all service.settings new.store) (run_cursor_of old) before.0) (sym same) before.1)
-
--- which were faulty, after one connection
-faulty_then : (failed : Bool) (faulty faulty' faulty'' : List Bool) (begun begun'' : ℕ) → faulty' ≡ faulty ++ false ∷ [] → begun'' ≡ begun → faulty'' ≡ (if failed then slice_set faulty' (begun - 1) true else faulty')
-    → faulty'' ≡ (if failed then slice_set (faulty ++ false ∷ []) (begun'' - 1) true else faulty ++ false ∷ [])
-faulty_then true faulty faulty' faulty'' begun begun'' began same is = is ∙ (λ i. slice_set (began i) (sym same i - 1) true)
-faulty_then false faulty faulty' faulty'' begun begun'' began same is = is ∙ began
 
 -- a connection that began was served
 pub next_served : (service : Service) (R : ReplyRelation) (line line' : LineModel) (store : History) (known : Known) (clock draws : SourceModel) (new : World) (ended : Close)
@@ -85,10 +82,6 @@ pub next_none : (line line' : LineModel) (store : History) (known : Known) (cloc
 next_none line line' store known clock draws same = ap (λ w. run_cursor_of (world (record line { transcript = w }) store known clock draws)) same
 
 -- ---- a run but for its report
-
--- nothing is known of the store as a run begins
-pub unsure_met : {h : History} → Met Any h → Met (IsKnown Unsure) h
-unsure_met met = record { observable = met.observable; sound = met.sound; has = λ is. absurd (let clash : Unsure ≡ Settled = is in cc) }
 
 line_served_none : (serving : Serving) (failed complete : Bool) (line : LineModel) → failed ≡ false → complete ≡ false → LineServed serving failed complete line line
 line_served_none serving true complete line fails ends = cc
@@ -150,41 +143,27 @@ idle_fits task keys ended (keys_refused usage bad) = subst (Fits task) (sym usag
 abbrev pub as_region : List ℕ → ℕ → ℕ → Bool → Option ℕ → Serving
 as_region region least largest extended most = record { settings = settings_of region least largest extended; most = most }
 
--- how a session ended, as a run
-done_is : (status : Status) → is_done (Plain status) ≡ true → status ≡ Done
-done_is Done is = refl
-done_is Usage is = absurd (let clash : false ≡ true = is in cc)
-done_is Line is = absurd (let clash : false ≡ true = is in cc)
-done_is Store is = absurd (let clash : false ≡ true = is in cc)
-done_is Request is = absurd (let clash : false ≡ true = is in cc)
-done_is Memory is = absurd (let clash : false ≡ true = is in cc)
-
-status_line : (serving : Serving) (status : Status) (old new : LineModel) → LineServesAll serving.most status old new → LineServed serving (is_failed_run (Plain status)) (is_done (Plain status)) old new
-status_line serving status old new line = record {
-  next_faults = line.next_faults;
-  served_out = λ observable ends. line.done observable (done_is status ends);
-  within = line.within;
-  none_faulty = line.none_faulty;
-}
-
 -- a run that is a session, with such a number of connections
 pub run_session : (serving : Serving) (keys : List ℕ) {read : List AccessKey} {status : Status} {old : World} {new : Known → World} (known : Known) → read ≡ keys_of keys
-    → LineServesAll serving.most status old.line (new known).line → ServesOver serving.settings (RunTraces (record { settings = serving.settings; keys = read })) old (new known)
+    → LineServed serving (is_failed_run (Plain status)) (is_done (Plain status)) old.line (new known).line → ServesOver serving.settings (RunTraces (record { settings = serving.settings; keys = read })) old (new known)
     → RunServes serving keys (Plain status) old new
 run_session serving keys {status = status} {old = old} {new = new} known read line serves = record {
   known = known;
-  line = status_line serving status old.line (new known).line line;
+  line = line;
   serves = subst (λ (k : List AccessKey). ServesOver serving.settings (RunTraces (record { settings = serving.settings; keys = k })) old (new known)) read serves;
 }
 
--- how it may end
-pub session_fits : (serving : Serving) (status : Status) → is_end status ≡ true → Fits (to_serve serving) (Plain status)
-session_fits serving Done is = refl
-session_fits serving Usage is = tt
-session_fits serving Line is = refl
-session_fits serving Store is = absurd (let no : false ≡ true = is in cc)
-session_fits serving Memory is = tt
-session_fits serving Request is = absurd (let no : false ≡ true = is in cc)
+-- what the connections did to the line, where none is left, and where the line failed to give another
+pub line_served_out : (serving : Serving) (old new : LineModel) → LineServesAll serving.most Done old new → LineServed serving false true old new
+line_served_out serving old new line = record { next_faults = line.next_faults; served_out = λ observable all. line.done observable refl; within = line.within; none_faulty = line.none_faulty }
+
+pub line_served_on : (serving : Serving) (old new : LineModel) → LineServesAll serving.most Line old new → LineServed serving true false old new
+line_served_on serving old new line = record {
+  next_faults = line.next_faults;
+  served_out = λ observable all. absurd (let clash : false ≡ true = all in cc);
+  within = line.within;
+  none_faulty = line.none_faulty;
+}
 
 -- ---- what a run promises
 

@@ -10,19 +10,19 @@ use Rattle.account_calls.specs.declared.state.Known.TheVariants.{Unsure}
 use Rattle.account_calls.specs.Calls.{Met, Any}
 use Rattle.account_calls.specs.Known.{IsKnown}
 use Rattle.account_calls.proofs.lemmas.Idle.{none_made}
-use Rattle.gateway.specs.Life.{upkeep, answering, Promises, answers_all, keeps_state}
 use Rattle.gateway.specs.World.{World, world}
+use Rattle.gateway.proofs.lemmas.Worlds.{unsure_met}
 use Rattle.trial_cmd.specs.Served.{trial_service}
 use Rattle.gateway_cmd.specs.declared.status.RunOutcome.{RunOutcome}
 use Rattle.gateway_cmd.specs.declared.status.RunOutcome.TheVariants.{Plain}
 use Rattle.gateway_cmd.specs.declared.status.Status.TheVariants.{Memory, Usage}
 use Rattle.gateway_cmd.specs.Facts.{Needs, impossible, any_keys, key_of_id, are_enough, facts_of, is_possible, Apart, Does, HasWorked}
-use Rattle.gateway_cmd.specs.Lives.{usual, forgetting}
+use Rattle.gateway_cmd.specs.Lives.{answering, upkeep, forgetting, RunPromises}
 use Rattle.gateway_cmd.specs.Report.{Admits}
 use Rattle.gateway_cmd.specs.Session.{IsIdle, out_of_memory, keys_refused, nothing_done, none_swept, none_surveyed, nothing_tried}
 use Rattle.gateway_cmd.specs.Tasks.{Task, nothing, to_serve, to_sign, to_presign, to_recover, to_sweep, to_check, to_try}
 use Rattle.gateway_cmd.proofs.Recoveries.{recovers_quietly}
-use Rattle.gateway_cmd.proofs.Sessions.{unsure_met, run_serves_none, run_signs_none, run_presigns_none, idle_fails, idle_ends, idle_never, idle_refused}
+use Rattle.gateway_cmd.proofs.Sessions.{run_serves_none, run_signs_none, run_presigns_none, idle_fails, idle_ends, idle_never, idle_refused}
 use Rattle.gateway_cmd.proofs.Surveying.{surveys_quietly}
 use Rattle.gateway_cmd.proofs.SweepRuns.{sweeps_forget}
 use Rattle.gateway_cmd.proofs.Trials.{tries_work}
@@ -40,14 +40,14 @@ pub record TaskLaws (task : Task) : Type 1 where
       → (S → (new Unsure).store ≡ old.store) → ((known : Known) → (new known).store ≡ (new Unsure).store) → Met Any old.store → old.known ≡ Unsure → HasWorked task old.store (new Unsure).store
 
 -- the store was left alone
-still : {h h' : History} → h' ≡ h → Met Any h → Promises h' h.called h'.called upkeep
-still {h = h} same met = subst (λ h'. Promises h' h.called h'.called upkeep) (sym same) (keeps_state (none_made refl met.sound))
+still : {h h' : History} → h' ≡ h → Met Any h → RunPromises h' h.called h'.called upkeep
+still {h = h} same met = subst (λ h'. RunPromises h' h.called h'.called upkeep) (sym same) (none_made refl met.sound)
 
 laws_of : (task : Task) → TaskLaws task
 laws_of nothing = record {
   idle = λ keys ended line store clock draws idle. tt;
   draws = λ L S C D left draws. (left.0, left.1, left.2, draws);
-  among = λ L S C D keys ended old new does apart same own met unsure. record { work = usual upkeep; is = refl; promises = still (same apart.1) met };
+  among = λ L S C D keys ended old new does apart same own met unsure. record { work = upkeep; is = refl; promises = still (same apart.1) met };
 }
 laws_of (to_serve serving) = record {
   idle = λ keys ended line store clock draws idle. run_serves_none serving keys ended line store clock draws (idle_fails idle) (idle_ends idle);
@@ -55,25 +55,25 @@ laws_of (to_serve serving) = record {
   among = λ L S C D keys ended old new does apart same own met unsure.
       let stood = does.serves.stands (subst (λ known. Met (IsKnown known) old.store) (sym unsure) (unsure_met met)) in
       record {
-        work = usual (answering serving.settings stood.spans);
+        work = answering serving.settings stood.spans;
         is = (stood.spans, refl);
-        promises = subst (λ h. Promises h old.store.called h.called (answering serving.settings stood.spans)) (own does.known) (answers_all serving.settings stood.spans stood.follows stood.passes);
+        promises = subst (λ h. RunPromises h old.store.called h.called (answering serving.settings stood.spans)) (own does.known) (stood.follows, stood.passes);
       };
 }
 laws_of (to_sign id region) = record {
   idle = λ keys ended line store clock draws idle. run_signs_none id region keys store.called ended line (idle_fails idle) (idle_never idle);
   draws = λ L S C D left draws. (left.0, left.1, draws);
-  among = λ L S C D keys ended old new does apart same own met unsure. record { work = usual upkeep; is = refl; promises = still (same apart.0) met };
+  among = λ L S C D keys ended old new does apart same own met unsure. record { work = upkeep; is = refl; promises = still (same apart.0) met };
 }
 laws_of (to_presign id region expires) = record {
   idle = λ keys ended line store clock draws idle. run_presigns_none id region expires keys store.called ended line clock (idle_fails idle) (idle_never idle);
   draws = λ L S C D left draws. (left.0, draws);
-  among = λ L S C D keys ended old new does apart same own met unsure. record { work = usual upkeep; is = refl; promises = still (same apart.0) met };
+  among = λ L S C D keys ended old new does apart same own met unsure. record { work = upkeep; is = refl; promises = still (same apart.0) met };
 }
 laws_of to_recover = record {
   idle = λ keys ended line store clock draws idle. nothing_done refl idle;
   draws = λ L S C D left draws. (left.0, left.1, draws);
-  among = λ L S C D keys ended old new does apart same own met unsure. record { work = usual upkeep; is = refl; promises = keeps_state (recovers_quietly does met) };
+  among = λ L S C D keys ended old new does apart same own met unsure. record { work = upkeep; is = refl; promises = recovers_quietly does met };
 }
 laws_of (to_sweep before) = record {
   idle = λ keys ended line store clock draws idle. none_swept refl idle;
@@ -83,14 +83,14 @@ laws_of (to_sweep before) = record {
 laws_of to_check = record {
   idle = λ keys ended line store clock draws idle. none_surveyed refl idle;
   draws = λ L S C D left draws. (left.0, left.1, draws);
-  among = λ L S C D keys ended old new does apart same own met unsure. record { work = usual upkeep; is = refl; promises = keeps_state (surveys_quietly does met) };
+  among = λ L S C D keys ended old new does apart same own met unsure. record { work = upkeep; is = refl; promises = surveys_quietly does met };
 }
 laws_of (to_try number requests) = record {
   idle = λ keys ended line store clock draws idle. nothing_tried refl idle;
   draws = λ L S C D left draws. (left.0, left.1, draws);
   among = λ L S C D keys ended old new does apart same own met unsure.
       let work = tries_work does met in
-      record { work = usual (answering trial_service.settings work.spans); is = (work.spans, refl); promises = work.promises };
+      record { work = answering trial_service.settings work.spans; is = (work.spans, refl); promises = work.promises };
 }
 
 -- ---- of any task

@@ -13,20 +13,20 @@ use Rattle.gateway.specs.declared.ended.Ended.{Ended}
 use Rattle.gateway.specs.declared.ended.Ended.TheVariants.{End, Closed, CutShort, Refused, LineFailed, StoreFailed, Inconsistent, Memory}
 use Rattle.gateway.specs.Connection.{Progress, cursor, progress}
 use Rattle.gateway.specs.Exchange.{Span, Where, store_cursor}
-use Rattle.gateway.specs.Life.{answering, Promises, answers_all}
 use Rattle.gateway.specs.Stands.{Follows, AllPass}
 use Rattle.gateway.specs.World.{world, progress_of}
+use Rattle.gateway.proofs.lemmas.Worlds.{unsure_met}
 use Rattle.trial_cmd.specs.declared.serve.Trial.{Trial}
 use Rattle.trial_cmd.specs.Replied.{OwnReplies, RepliesAlone, is_replied_end, output_of}
 use Rattle.trial_cmd.specs.Served.{TrialDoes, TrialReplied, trial_moments, trial_service}
 use Rattle.gateway_cmd.specs.declared.status.RunOutcome.{RunOutcome}
 use Rattle.gateway_cmd.specs.declared.status.RunOutcome.TheVariants.{Plain}
 use Rattle.gateway_cmd.specs.declared.status.Status.TheVariants as status
+use Rattle.gateway_cmd.specs.Lives.{answering, RunPromises}
 use Rattle.gateway_cmd.specs.Report.{Admits, Reports, Says, tried, trial_report_line, outcome_of_trial}
 use Rattle.gateway_cmd.specs.Session.{out_of_memory, keys_refused, RunTries, nothing_tried, was_served, StoreTried}
 use Rattle.gateway_cmd.proofs.Exits.{Exits, says_exits}
 use Rattle.gateway_cmd.proofs.Recoveries.{idle_status}
-use Rattle.gateway_cmd.proofs.Sessions.{unsure_met}
 
 -- where the keys are taken and memory did not run out, the requests were answered
 pub was_answered : {number requests : ℕ} {keys : List ℕ} {ended : RunOutcome} {old new : History} → RunTries number requests keys ended old new → are_keys (keys_of keys) ≡ true → ended ≢ Plain status.Memory
@@ -150,13 +150,13 @@ trial_reports {all = all} {number = number} {requests = requests} {old = old} {n
 
 pub record TriesWork (old new : History) : Type 0 where
   pub spans : List Span
-  pub promises : Promises new old.called new.called (answering trial_service.settings spans)
+  pub promises : RunPromises new old.called new.called (answering trial_service.settings spans)
 
-no_requests : (h : History) → Promises h h.called h.called (answering trial_service.settings [])
+no_requests : (h : History) → RunPromises h h.called h.called (answering trial_service.settings [])
 unfolding Follows AllPass
-no_requests h = answers_all trial_service.settings [] refl tt
+no_requests h = (refl, tt)
 
 pub tries_work : {number requests : ℕ} {keys : List ℕ} {ended : RunOutcome} {old new : History} → RunTries number requests keys ended old new → Met Any old → TriesWork old new
-tries_work {old = old} (nothing_tried same idle) met = record { spans = []; promises = subst (λ h. Promises h old.called h.called (answering trial_service.settings [])) (sym same) (no_requests old) }
+tries_work {old = old} (nothing_tried same idle) met = record { spans = []; promises = subst (λ h. RunPromises h old.called h.called (answering trial_service.settings [])) (sym same) (no_requests old) }
 tries_work (was_served trial does is) met =
-    let stood = does.2.serves.stands (unsure_met met) in record { spans = stood.spans; promises = answers_all trial_service.settings stood.spans stood.follows stood.passes }
+    let stood = does.2.serves.stands (unsure_met met) in record { spans = stood.spans; promises = (stood.follows, stood.passes) }

@@ -7,12 +7,11 @@ use Rattle.sigv4.specs.Keys.{keys_of, are_keys, secret_of}
 use Rattle.trial_cmd.specs.Served.{trial_service}
 use Rattle.s3_machine.specs.declared.operation.Settings.{Settings}
 use Rattle.gateway.specs.Exchange.{Span}
-use Rattle.gateway.specs.Life.{upkeep, answering}
 use Rattle.gateway.specs.World.{World}
 use Rattle.gateway_cmd.specs.declared.status.Status.TheVariants.{Done, Usage, Line, Store, Request, Memory}
 use Rattle.gateway_cmd.specs.declared.status.RunOutcome.{RunOutcome}
 use Rattle.gateway_cmd.specs.declared.status.RunOutcome.TheVariants.{Told, Inconsistent, Plain}
-use Rattle.gateway_cmd.specs.Lives.{RunWork, usual, forgetting, RunPromises}
+use Rattle.gateway_cmd.specs.Lives.{RunWork, answering, upkeep, forgetting, RunPromises}
 use Rattle.gateway_cmd.specs.Report.{Kind, a_signature, a_url, a_recovery, a_sweep, a_survey, a_trial, kind_of}
 use Rattle.gateway_cmd.specs.Session.{RunServes, RunSigns, RunPresigns, RunRecovers, RunSweeps, RunSurveys, RunTries}
 use Rattle.gateway_cmd.specs.Tasks.{Task, nothing, to_serve, to_sign, to_presign, to_recover, to_sweep, to_check, to_try}
@@ -33,10 +32,10 @@ pub data Finish : Type 0 where
 
 -- what a run is among others: it leaves the state, or it answers requests
 abbrev pub IsUpkeep : RunWork → Type 0
-IsUpkeep work = work ≡ usual upkeep
+IsUpkeep work = work ≡ upkeep
 
 abbrev pub IsAnswering : Settings → RunWork → Type 0
-IsAnswering settings work = (spans : List Span) × (work ≡ usual (answering settings spans))
+IsAnswering settings work = (spans : List Span) × (work ≡ answering settings spans)
 
 -- what is said of a run by its task
 pub record TaskFacts : Type 1 where

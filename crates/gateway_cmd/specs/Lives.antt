@@ -3,23 +3,29 @@ use Rattle.std.specs.Prelude.{◌≡◌, ◌≤◌, ℕ, Bool, not, is_some, Lis
 use Rattle.std.specs.List.{filter}
 use Rattle.std.specs.FinMap.{get}
 use Rattle.s3_machine.specs.State.{Bucket, State}
+use Rattle.s3_machine.specs.declared.operation.Settings.{Settings}
 use Rattle.swift_calls.specs.Account.{SwiftAccount}
 use Rattle.swift_calls.specs.History.{History}
 use Rattle.upload_records.specs.Native.{s3_state}
 use Rattle.upload_records.specs.Consistent.{IsConsistent}
+use Rattle.account_calls.specs.Stutters.{Stutters}
 use Rattle.sweep.specs.Forgetting.{all_old, forgotten}
 use Rattle.sweep.specs.Swept.{Forgets}
-use Rattle.gateway.specs.Life.{Work, Promises, Worked}
+use Rattle.gateway.specs.Exchange.{Span}
+use Rattle.gateway.specs.Life.{After}
+use Rattle.gateway.specs.Stands.{Follows, AllPass}
 
--- what a run does to the account: it answers requests, or leaves the state, as runs of the gateway do; or it forgets the kept
--- completions from before a moment
+-- what a run does to the account: it answers requests; or it leaves the state; or it forgets the kept completions from before a
+-- moment
 pub data RunWork : Type 0 where
-  usual : Work → RunWork
+  answering : Settings → List Span → RunWork
+  upkeep : RunWork
   forgetting : ℕ → RunWork
 
 -- what a run promises between two numbers of calls, where its account is consistent at the first
 abbrev pub RunPromises : History → ℕ → ℕ → RunWork → Type 0
-RunPromises h entry exit (usual work) = Promises h entry exit work
+RunPromises h entry exit (answering settings spans) = Follows entry spans exit × AllPass settings h spans
+RunPromises h entry exit upkeep = Stutters h entry exit
 RunPromises h entry exit (forgetting before) = Forgets before h entry exit
 
 -- a completion is kept in the state, by the name of its bucket and its id
@@ -33,7 +39,8 @@ gone_between before old new = length (filter (λ one. not (is_kept new one)) (al
 -- what a run's work up to the number k of calls makes of the state: of the completions that are to be forgotten those that are gone
 -- are the first ones, by bucket and then by id in byte order, and nothing else is
 abbrev pub RunWorked : RunWork → ℕ → State → State → Type 0
-RunWorked (usual work) k old new = Worked work k old new
+RunWorked (answering settings spans) k old new = After settings k old spans new
+RunWorked upkeep k old new = new ≡ old
 RunWorked (forgetting before) k old new = new ≡ forgotten old before (gone_between before old new)
 
 -- a run that was stopped, or had ended, after `stop` calls of its store; one that was stopped would have gone on to `exit`

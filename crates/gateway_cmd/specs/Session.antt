@@ -1,10 +1,9 @@
 -- One step of a session: a connection that was served, or its end; and what a run of each command does. Source: this profile.
-use Rattle.std.specs.Prelude.{◌≡◌, ◌≢◌, ◌<◌, ◌≤◌, ◌⊎◌, ℕ, ◌+◌, ◌-◌, ◌^◌, ◌==◌, Bool, true, false, IsTrue, List, [], ◌++◌, replicate, Option, None, Some}
+use Rattle.std.specs.Prelude.{◌≡◌, ◌≢◌, ◌⊎◌, ℕ, ◌==◌, Bool, true, false, IsTrue, List, Option, None, Some}
 use Rattle.std.specs.Prelude.{Result, Ok, Err}
 use Rattle.gate_base.specs.Causes.{Rose, RisesIf}
 use Rattle.gate_base.specs.Line.{LineModel}
 use Rattle.gate_base.specs.Told.{SourceModel, ClockNow}
-use Rattle.gate_base.specs.Transcript.{Transcript}
 use Rattle.swift_calls.specs.History.{History, present}
 use Rattle.upload_records.specs.Native.{IsSettled}
 use Rattle.account_calls.specs.Answers.{most_settling}
@@ -24,8 +23,10 @@ use Rattle.trial_cmd.specs.Served.{TrialDoes}
 use Rattle.gateway.specs.declared.service.Service.{Service}
 use Rattle.gateway.specs.Exchange.{ReplyRelation, Span}
 use Rattle.gateway.specs.World.{World, ServesOver}
+use Rattle.http_service.specs.Running.{IsServedOut, BeginsAtMost, NoneFaulty}
+use Rattle.http_service.specs.declared.run.Stopped.{Stopped}
 use Rattle.gateway_cmd.specs.declared.status.Status.{Status}
-use Rattle.gateway_cmd.specs.declared.status.Status.TheVariants.{Done, Usage, Line, Store, Request as NoRequest, Memory}
+use Rattle.gateway_cmd.specs.declared.status.Status.TheVariants.{Usage, Memory}
 use Rattle.gateway_cmd.specs.declared.status.RunOutcome.{RunOutcome}
 use Rattle.gateway_cmd.specs.declared.status.RunOutcome.TheVariants.{Plain}
 use Rattle.gateway_cmd.specs.Report.{end_of, outcome_of_presigning, recovered, is_failed_run, is_done, outcome_of_trial}
@@ -33,65 +34,10 @@ use Rattle.gateway_cmd.specs.Tasks.{Serving, service_of}
 use Rattle.gateway_cmd.specs.Run.{run_cursor_of, ServesNext, RunTraces}
 use Rattle.gateway_cmd.specs.Sweeps.{Sweeps, Surveys}
 
--- no connection is left, or as many as were asked for began
-abbrev pub IsServedOut : Option ℕ → Transcript → Transcript → Type 0
-IsServedOut most old new = (new.waiting ≡ []) ⊎ ((n : ℕ) × (most ≡ Some n) × (new.begun ≡ old.begun + n))
-
--- no more connections began than were asked for
-abbrev pub BeginsAtMost : Option ℕ → Transcript → Transcript → Type 0
-BeginsAtMost most old new = (n : ℕ) → most ≡ Some n → new.begun ≤ old.begun + n
-
 -- the next connection was served, or nothing came between
-abbrev pub NextCursor : Service → ReplyRelation → Option Status → World → World → Type 0
+abbrev pub NextCursor : Service → ReplyRelation → Option Stopped → World → World → Type 0
 NextCursor service R None old new = (spans : List Span) × ServesNext service R (run_cursor_of old) spans (run_cursor_of new)
-NextCursor service R (Some status) old new = run_cursor_of new ≡ run_cursor_of old
-
--- connections began, and the line failed under none of them
-pub record NoneFaulty (old new : Transcript) : Type 0 where
-  pub begun : old.begun ≤ new.begun
-  pub faulty : new.faulty ≡ old.faulty ++ replicate (new.begun - old.begun) false
-
--- ---- what the connections of a run do to the line
-
--- the end of a run that serves: no connection is left to serve, or the line failed to give another
-abbrev pub is_end : Status → Bool
-is_end Done = true
-is_end Usage = false
-is_end Line = true
-is_end Store = false
-is_end NoRequest = false
-is_end Memory = false
-
-abbrev pub is_failed_session : Option Status → Bool
-is_failed_session None = false
-is_failed_session (Some status) = is_failed_run (Plain status)
-
-abbrev pub IsEnd : Option Status → Type 0
-IsEnd None = Unit {0}
-IsEnd (Some status) = is_end status ≡ true
-
--- how many connections began, by whether another did
-abbrev pub begun_after : Option Status → ℕ → ℕ
-begun_after None begun = begun + 1
-begun_after (Some status) begun = begun
-
--- the next connection was served, or there is none
-pub record LineServesNext (result : Option Status) (old new : LineModel) : Type 0 where
-  pub ends : IsEnd result
-  pub falls : result ≡ None → 2 ^ 63 - new.spent < 2 ^ 63 - old.spent
-  pub faults : old.faults ≤ new.faults
-  pub next_faults : RisesIf (is_failed_session result) old.next_faults new.next_faults
-  pub begun : IsTrue old.observable → new.transcript.begun ≡ begun_after result old.transcript.begun
-  pub done : IsTrue old.observable → result ≡ Some Done → new.transcript.waiting ≡ []
-  pub none_faulty : IsTrue old.observable → (Rose old.faults new.faults → ⊥) → NoneFaulty old.transcript new.transcript
-
--- the connections were, until there was none, or as many as were asked for had begun
-pub record LineServesAll (most : Option ℕ) (status : Status) (old new : LineModel) : Type 0 where
-  pub ends : is_end status ≡ true
-  pub next_faults : RisesIf (is_failed_run (Plain status)) old.next_faults new.next_faults
-  pub done : IsTrue old.observable → status ≡ Done → IsServedOut most old.transcript new.transcript
-  pub within : IsTrue old.observable → BeginsAtMost most old.transcript new.transcript
-  pub none_faulty : IsTrue old.observable → (Rose old.faults new.faults → ⊥) → NoneFaulty old.transcript new.transcript
+NextCursor service R (Some stopped) old new = run_cursor_of new ≡ run_cursor_of old
 
 -- what a run that serves does to the line, by whether the line failed to give a connection, and whether all was done
 pub record LineServed (serving : Serving) (failed done : Bool) (old new : LineModel) : Type 0 where

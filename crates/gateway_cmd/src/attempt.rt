@@ -11,12 +11,12 @@ ghost use Rattle.presign_cmd.specs.declared.first.Presigning.{Presigning};
 ghost use Rattle.gateway_cli.specs.Words.{IsProper, is_region};
 ghost use Rattle.gateway.specs.World.{world, Continues, ServesOver};
 ghost use Rattle.gateway_cmd.specs.Facts.{Apart, Does, Fits, is_possible};
-ghost use Rattle.gateway_cmd.specs.Report.{Admits, is_failed_run, end_of, outcome_of_presigning};
-ghost use Rattle.gateway_cmd.specs.Tasks.{asked_for, settings_of, task_of, to_sign, to_presign};
+ghost use Rattle.gateway_cmd.specs.Report.{Admits, is_done, is_failed_run, end_of, outcome_of_presigning};
+ghost use Rattle.gateway_cmd.specs.Tasks.{asked_for, settings_of, task_of, to_serve, to_sign, to_presign};
 ghost use Rattle.gateway_cmd.specs.declared.status.RunOutcome.TheVariants as ended;
 ghost use Rattle.gateway_cmd.specs.declared.status.Status.TheVariants as status;
 ghost use Rattle.gateway_cmd.specs.Run.{RunTraces};
-ghost use Rattle.gateway_cmd.specs.Session.{LineServesAll};
+ghost use Rattle.gateway_cmd.specs.Session.{LineServed};
 
 use crate::keys::read_keys;
 use crate::recover::recover;
@@ -28,6 +28,7 @@ use account_calls::{Known, taken_text};
 use gate_base::{Bytes, Clock, Draws, Line, drop};
 use gateway::Service;
 use gateway_cli::{Command, WordsFault, read_words};
+use http_service::Stopped;
 use presign_cmd::{Presigning, presign_first};
 use s3_machine::Settings;
 use sign_cmd::{Signing, sign_first};
@@ -229,7 +230,10 @@ fn serve<N: Line<W>, W: Swift, C: Clock, D: Draws>(
     clock: &mut C,
     draws: &mut D,
 ) -> Status
-    ensures line { LineServesAll most result (N.model line.old) (N.model line.new) }
+    ensures fits { Fits (to_serve (record { settings = settings; most = most })) (ended.Plain result) }
+    ensures line { LineServed (record { settings = settings; most = most })
+        (is_failed_run (ended.Plain result)) (is_done (ended.Plain result))
+        (N.model line.old) (N.model line.new) }
     ensures serves { (known : what_is_known)
         × ServesOver settings (RunTraces (record { settings = settings; keys = keys }))
         (world (N.model line.old) (W.history store.old) Unsure (C.model clock.old)
@@ -238,7 +242,10 @@ fn serve<N: Line<W>, W: Swift, C: Clock, D: Draws>(
 {
     let service = Service { settings, keys };
     let mut known = Known::Unsure;
-    session(alloc, &service, most, line, store, &mut known, clock, draws)
+    match session(alloc, &service, most, line, store, &mut known, clock, draws) {
+        Stopped::Done => Status::Done,
+        Stopped::Line => Status::Line,
+    }
 }
 
 /// Signs the first request of the line by the key of the id.

@@ -2,13 +2,14 @@
 ghost use Rattle.std.specs.Prelude.{◌≡◌, ◌≢◌, ◌-◌, true, false, Some, option_map};
 ghost use Rattle.account_calls.specs.Known.{Knows};
 ghost use Rattle.gateway.specs.World.{world, ServesOver};
+ghost use Rattle.http_service.specs.Running.{LineServesAll, LineServesNext};
 ghost use Rattle.gateway_cmd.specs.Run.{RunTraces};
-ghost use Rattle.gateway_cmd.specs.Session.{LineServesAll, LineServesNext, NextCursor};
+ghost use Rattle.gateway_cmd.specs.Session.{NextCursor};
 
-use crate::status::Status;
 use account_calls::Known;
 use gate_base::{Clock, Draws, Line};
 use gateway::{Service, serve_connection};
+use http_service::Stopped;
 use std::alloc::Global;
 use swift_calls::Swift;
 
@@ -23,7 +24,7 @@ pub fn session<N: Line<W>, W: Swift, C: Clock, D: Draws>(
     known: &mut Known,
     clock: &mut C,
     draws: &mut D,
-) -> Status
+) -> Stopped
     requires { Knows known.old (W.history store.old) }
     ensures line { LineServesAll most result (N.model line.old) (N.model line.new) }
     ensures serves { ServesOver service.now.settings (RunTraces service.now)
@@ -33,10 +34,10 @@ pub fn session<N: Line<W>, W: Swift, C: Clock, D: Draws>(
     let mut left = most;
     'connections: loop {
         if is_session_limit_reached(left) {
-            return Status::Done;
+            return Stopped::Done;
         }
         match serve_another(alloc, service, line, store, known, clock, draws) {
-            Some(status) => return status,
+            Some(stopped) => return stopped,
             None => left = session_limit_after_one(left),
         }
     }
@@ -71,7 +72,7 @@ fn serve_another<N: Line<W>, W: Swift, C: Clock, D: Draws>(
     known: &mut Known,
     clock: &mut C,
     draws: &mut D,
-) -> Option<Status>
+) -> Option<Stopped>
     requires { Knows known.old (W.history store.old) }
     ensures line { LineServesNext result (N.model line.old) (N.model line.new) }
     ensures serves { ServesOver service.now.settings (λ R. NextCursor service.now R result)
@@ -83,7 +84,7 @@ fn serve_another<N: Line<W>, W: Swift, C: Clock, D: Draws>(
             let _ended = serve_connection(alloc, store, known, service, line, clock, draws);
             None
         }
-        Ok(false) => Some(Status::Done),
-        Err(_) => Some(Status::Line),
+        Ok(false) => Some(Stopped::Done),
+        Err(_) => Some(Stopped::Line),
     }
 }

@@ -1,5 +1,3 @@
-pub mod Counting
-pub mod Faulty
 pub mod Looping
 pub mod Runs
 pub mod Stepping

@@ -1,5 +1,5 @@
 -- A run, connection by connection, over a service that goes on.
-use Rattle.std.proofs.Common.{◌≡◌, ◌++◌, ◌∷◌, ℕ, Bool, true, false, List, [], None, Some, if◌then◌else◌, slice_set, ◌-◌, sym, ap, subst, ◌∙◌}
+use Rattle.std.proofs.Common.{◌≡◌, ◌++◌, ◌∷◌, ℕ, true, List, None, Some, sym, ap, subst, ◌∙◌}
 use Rattle.gate_base.specs.Line.{TranscriptServes}
 use Rattle.gate_base.specs.Transcript.{Transcript, Begins}
 use Rattle.gate_base.specs.declared.outside.Piece.{Piece}
@@ -8,16 +8,11 @@ use Rattle.http_service.specs.declared.run.Stopped.{Stopped}
 use Rattle.http_service.specs.Trace.{AnswerRelation, RunCursor, RunTrace, more, ConnectionTrace, progress, cursor, is_failed_end}
 use Rattle.http_service.specs.Answering.{start_of}
 use Rattle.http_service.specs.Running.{run_cursor, NextCursor}
+use Rattle.http_service.proofs.lemmas.NoneFaulty.{faulty_then}
 use Rattle.http_service.proofs.lemmas.Within.{Within, run_map}
 
 abbrev pub Served : {State Note : Type 0} → (State → ℕ) → ℕ → List ℕ → AnswerRelation State Note → RunCursor State → RunCursor State → Type 0
 Served {Note = Note} number limit memory R begin present = (notes : List Note) × RunTrace number limit memory R begin notes present
-
--- which were faulty, after one connection
-faulty_then : (failed : Bool) (faulty faulty' faulty'' : List Bool) (begun begun'' : ℕ) → faulty' ≡ faulty ++ false ∷ [] → begun'' ≡ begun → faulty'' ≡ (if failed then slice_set faulty' (begun - 1) true else faulty')
-    → faulty'' ≡ (if failed then slice_set (faulty ++ false ∷ []) (begun'' - 1) true else faulty ++ false ∷ [])
-faulty_then true faulty faulty' faulty'' begun begun'' began same is = is ∙ (λ i. slice_set (began i) (sym same i - 1) true)
-faulty_then false faulty faulty' faulty'' begun begun'' began same is = is ∙ began
 
 module _ {State Note : Type 0} (number : State → ℕ) (limit : ℕ) (memory : List ℕ) where
   -- they are so of a service that went on

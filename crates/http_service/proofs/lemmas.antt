@@ -1,2 +1,5 @@
+pub mod Counting
+pub mod Faulty
+pub mod Lines
 pub mod NoneFaulty
 pub mod Within

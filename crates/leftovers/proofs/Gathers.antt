@@ -33,7 +33,7 @@ use Rattle.account_calls.specs.Told.{Idles}
 use Rattle.account_calls.proofs.lemmas.Walk.{idles_none, idles_trans, cause_after, keeps_after}
 use Rattle.leftovers.proofs.lemmas.FileNames.{all_names, names_of}
 use Rattle.leftovers.proofs.lemmas.Lists.{at_place, halves, take_zero}
-use Rattle.leftovers.proofs.lemmas.Turned.{turned, ended}
+use Rattle.account_calls.proofs.lemmas.Turned.{turned, ended}
 use Rattle.leftovers.specs.declared.gathering.Source.{Source}
 use Rattle.leftovers.specs.declared.gathering.Source.TheVariants.{Records, Objects}
 use Rattle.leftovers.specs.Leftovers.{is_named_in, is_open}

@@ -7,5 +7,3 @@ pub mod Lists
 pub mod PageRead
 pub mod Readings
 pub mod Touched
-pub mod Turned
-pub mod Versions

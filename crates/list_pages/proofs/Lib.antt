@@ -1,5 +1,4 @@
 pub mod Asking
-pub mod Dated
 pub mod Ends
 pub mod Follows
 pub mod Marked

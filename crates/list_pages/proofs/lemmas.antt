@@ -1,3 +1,4 @@
+pub mod Dated
 pub mod Fronts
 pub mod Greatest
 pub mod Jumps

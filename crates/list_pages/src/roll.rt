@@ -85,7 +85,7 @@ fn make_roll_item(alloc: Global, text: &[u8], up: bool, item: &NameItem) -> Resu
 }
 
 /// What a listing tells of an object, whose type ends in its stamp.
-#[tactic(auto, using(crate::proofs::Dated::stamp_is_dated))]
+#[tactic(auto, using(crate::proofs::lemmas::Dated::stamp_is_dated))]
 fn read_roll_item_head(alloc: Global, item: &NameItem) -> Result<ItemHead, RollFault>
     ensures head { IfOk result (λ head. head ≡ head_in item.now) }
     ensures shown { IfOk result IsShownItemHead }

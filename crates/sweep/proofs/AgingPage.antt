@@ -24,7 +24,7 @@ use Rattle.leftovers.specs.Gathering.{names_after}
 use Rattle.leftovers.specs.Segments.{HasSettled}
 use Rattle.sweep.proofs.ForgetCalls.{forgetting_quiet, forgetting_quiet_failed, forgetting_then, forgetting_told, forgetting_vain, forgot_here, no_olds}
 use Rattle.sweep.proofs.PageNames.{distinct_page, last_is, last_out, lt_less, names_stay, page_is, page_there}
-use Rattle.leftovers.proofs.lemmas.Turned.{ended, turned}
+use Rattle.account_calls.proofs.lemmas.Turned.{ended, turned}
 
 module _ (bucket marker : List ℕ) (page : List NameItem) where
   abbrev folder : List ℕ

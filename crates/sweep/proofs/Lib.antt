@@ -26,7 +26,6 @@ pub mod NamesSwept
 pub mod PageNames
 pub mod PlanFaults
 pub mod SealedRead
-pub mod SealedVersions
 pub mod SideNames
 pub mod Spared
 pub mod StateOlds

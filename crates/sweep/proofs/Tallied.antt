@@ -29,7 +29,7 @@ use Rattle.sweep.specs.Surveying.{no_tally, one_more, page_calls, TalliesFiles, 
 use Rattle.leftovers.proofs.lemmas.Counted.{filter_append}
 use Rattle.leftovers.proofs.lemmas.FileNames.{all_names, names_of}
 use Rattle.leftovers.proofs.lemmas.Lists.{halves, take_zero}
-use Rattle.leftovers.proofs.lemmas.Turned.{turned, ended}
+use Rattle.account_calls.proofs.lemmas.Turned.{turned, ended}
 
 -- ---- item by item
 

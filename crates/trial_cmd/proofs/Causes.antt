@@ -7,7 +7,7 @@ use Rattle.gate_base.specs.ListTold.{source_of}
 use Rattle.swift_calls.specs.History.{History}
 use Rattle.account_calls.specs.Calls.{Any, Met}
 use Rattle.account_calls.specs.Known.{IsKnown}
-use Rattle.account_calls.specs.declared.state.Known.TheVariants.{Settled, Unsure}
+use Rattle.account_calls.specs.declared.state.Known.TheVariants.{Unsure}
 use Rattle.gateway.specs.declared.ended.Ended.{Ended}
 use Rattle.gateway.specs.declared.ended.Ended.TheVariants.{StoreFailed, Inconsistent}
 use Rattle.gateway.specs.declared.service.Service.{Service}
@@ -15,6 +15,7 @@ use Rattle.gateway.specs.Connection.{ConnectionTrace}
 use Rattle.gateway.specs.Exchange.{Span, RepliesBy, Where}
 use Rattle.gateway.specs.Laws.{FailedStoreRose, FoundConsistent}
 use Rattle.gateway.specs.World.{World, IsObservable, ServesOver, progress_of, start_of}
+use Rattle.gateway.proofs.lemmas.Worlds.{unsure_met}
 use Rattle.trial_cmd.specs.declared.serve.Trial.{Trial}
 use Rattle.trial_cmd.specs.Replied.{OwnReplies, RepliesAlone, is_replied_end}
 use Rattle.trial_cmd.specs.Served.{TrialTalks}
@@ -30,9 +31,6 @@ failed_rose service ended old new law serves told is =
     let trace = serves.effect told false tt in
     law service false new.store old.line.transcript.begun (start_of old) trace.0 (progress_of new)
     (subst (λ ended. ConnectionTrace service (RepliesBy false service.settings new.store) old.line.transcript.begun ended (start_of old) trace.0 (progress_of new)) is trace.1)
-
-unsure_met : {h : History} → Met Any h → Met (IsKnown Unsure) h
-unsure_met met = record { observable = met.observable; sound = met.sound; has = λ is. absurd (let clash : Unsure ≡ Settled = is in cc) }
 
 pub never_found : (service : Service) (ended : Ended) (old new : World) → FoundConsistent → Serves service ended old new → IsObservable old → old.known ≡ Unsure → Met Any old.store
     → (container name : List ℕ) → ended ≡ Inconsistent container name → ⊥

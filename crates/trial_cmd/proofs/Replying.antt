@@ -1,5 +1,5 @@
 -- A connection that was served to its end where no fault was counted: what was written are the replies alone.
-use Rattle.std.specs.Prelude.{◌≡◌, ◌≢◌, ◌⊎◌, ℕ, Bool, true, false, List, [], ◌∷◌, ◌++◌, Option, None, Some}
+use Rattle.std.specs.Prelude.{◌≡◌, ◌≢◌, ℕ, Bool, true, false, List, [], ◌∷◌, ◌++◌, Option, None, Some}
 use Rattle.std.proofs.Common.{refl, sym, ap, subst, ◌∙◌, inl, inr, arith, append-nil, append_assoc}
 use Rattle.std.proofs.lemmas.List.Concat.{flat_map-append}
 use Rattle.gate_base.specs.Causes.{Rose}
@@ -14,7 +14,6 @@ use Rattle.s3_machine.specs.Step.{S3Step}
 use Rattle.swift_calls.specs.History.{History}
 use Rattle.upload_records.specs.Native.{s3_state}
 use Rattle.account_calls.specs.Answers.{AnswersBy, machine, unavailable, memory}
-use Rattle.account_calls.specs.Stutters.{LastFailed}
 use Rattle.http_wire.specs.Interim.{interim_line}
 use Rattle.s3_requests.specs.declared.meant.Meant.TheVariants as meant
 use Rattle.gateway.specs.declared.ended.Ended.{Ended}
@@ -23,6 +22,7 @@ use Rattle.gateway.specs.declared.service.Service.{Service}
 use Rattle.gateway.specs.Request.{Request, print}
 use Rattle.gateway.specs.Exchange.{ReplyRelation, StoreCursor, Span, Performs, unsettled, answered, Replies, refused, performed, RepliesBy, ExpectedBytes, printed, out_of_memory, Sends, BreaksOff}
 use Rattle.gateway.specs.Connection.{Progress, ConnectionCursor, OwedIsSent, Serves, Exchanges, none, more, Ends, over, cut, served, unread, unheard, untold, broken, parted, ConnectionTrace}
+use Rattle.gateway.proofs.lemmas.Counted.{unsaid}
 use Rattle.gateway.proofs.lemmas.Map.{Between, fault_free_map}
 use Rattle.gateway.proofs.lemmas.Order.{serves_order, serves_order_faults, exchanges_order, exchanges_order_faults, ends_order, ends_order_faults}
 use Rattle.trial_cmd.specs.Replied.{output_of, is_replied_end, OwnReplies, IsOwedLine, Replied, none_replied, one_replied, by_reply, at_end, inside_head, RepliesAlone}
@@ -34,10 +34,6 @@ step_by : {settings : Settings} {h : History} {p q : ℕ} {op : Op} {label : Lab
 step_by known steady (machine all stepped) = stepped
 step_by known steady (unavailable is failed old) = absurd (steady is)
 step_by known steady (memory is old) = absurd (known is)
-
-unsaid : {h : History} {p q : ℕ} {given : Reply} → given ≢ reply.Memory → given ≢ reply.Refused ServiceUnavailable → ((given ≡ reply.Refused ServiceUnavailable) × LastFailed h p q) ⊎ (given ≡ reply.Memory) → ⊥
-unsaid known steady (inl (is, failed)) = steady is
-unsaid known steady (inr is) = known is
 
 -- settling left the state, so the step is one from the state before the request
 step_of : {settings : Settings} {h : History} {old new : StoreCursor} {span : Span} {op : Op} {label : Label} {given : Reply} → given ≢ reply.Memory → given ≢ reply.Refused ServiceUnavailable

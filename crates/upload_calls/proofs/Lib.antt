@@ -1,5 +1,4 @@
 pub mod Clearing
-pub mod Dated
 pub mod Digits
 pub mod DropCalls
 pub mod FreeIds
@@ -13,6 +12,4 @@ pub mod RecordCalls
 pub mod RecordLength
 pub mod SideFiles
 pub mod TakenIds
-pub mod Turned
-pub mod Versions
 pub mod lemmas

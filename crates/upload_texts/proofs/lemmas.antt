@@ -1,1 +1,4 @@
 pub mod Back
+pub mod ReadBack
+pub mod RecordVersions
+pub mod SealedVersions

@@ -21,7 +21,7 @@ by_takes known steady (machine all stepped) = all
 by_takes known steady (unavailable is failed old) = absurd (steady is)
 by_takes known steady (memory is old) = absurd (known is)
 
-unsaid : {h : History} {p q : ℕ} {reply : Reply} → reply ≢ Memory → reply ≢ Refused ServiceUnavailable → ((reply ≡ Refused ServiceUnavailable) × LastFailed h p q) ⊎ (reply ≡ Memory) → ⊥
+pub unsaid : {h : History} {p q : ℕ} {reply : Reply} → reply ≢ Memory → reply ≢ Refused ServiceUnavailable → ((reply ≡ Refused ServiceUnavailable) × LastFailed h p q) ⊎ (reply ≡ Memory) → ⊥
 unsaid known steady (inl (is, failed)) = steady is
 unsaid known steady (inr is) = known is
 

@@ -1,5 +1,4 @@
--- What the account goes through in the requests of a connection, over an observable store: the steps of each, and it is left
--- consistent, and as it is known to be.
+-- What the account goes through in the requests of a connection, over an observable store: the steps of each.
 use Rattle.std.specs.Prelude.{◌≡◌, ◌≤◌, ℕ, ◌+◌, List, [], ◌∷◌, ◌++◌, Option, None, Some}
 use Rattle.std.proofs.Common.{sym, ap, subst, ◌∙◌, inl, inr, arith}
 use Rattle.std.proofs.lemmas.Bool.{cases_lt}
@@ -18,10 +17,10 @@ use Rattle.account_calls.proofs.lemmas.Agree.{quiet_agree, passes_agree, passes_
 use Rattle.gateway.specs.declared.ended.Ended.{Ended}
 use Rattle.gateway.specs.declared.service.Service.{Service}
 use Rattle.gateway.specs.Request.{Request}
-use Rattle.gateway.specs.Exchange.{StoreCursor, Span, Asked, asked_by, IsSpan, IsKnownOf, Performs, unsettled, answered, Replies, refused, performed}
+use Rattle.gateway.specs.Exchange.{StoreCursor, Span, Asked, asked_by, IsSpan, Performs, unsettled, answered, Replies, refused, performed}
 use Rattle.gateway.specs.Connection.{Progress, ConnectionCursor, Serves, Exchanges, none, more, Breaks, Ends, over, cut, served, unread, unheard, untold, broken, parted, ConnectionTrace}
 use Rattle.gateway.specs.Stands.{Follows, OpPasses, NonePasses, SpanPasses, AllPass}
-use Rattle.gateway.proofs.lemmas.Order.{follows_order, exchanges_follow, connection_trace_follow}
+use Rattle.gateway.proofs.lemmas.Order.{follows_order}
 
 -- ---- one request
 
@@ -73,12 +72,6 @@ span_sound settings h span (Some asked) k from to passes = elim (cases_lt k span
   | inr far ↦ passes.passes.sound k far to
 ]
 
--- what is known of the account after it is so
-pub replies_known : {settings : Settings} {h : History} {old new : StoreCursor} {span : Span} {request : Request} {label : Label} {reply : Reply} → IsKnownOf h old
-    → Replies settings h old span new request label reply → IsKnownOf h new
-replies_known {h = h} known (refused code means is proper sound same takes) = subst (IsKnownOf h) (sym same) known
-replies_known known (performed op means performs caused known') = known'
-
 -- ---- lists of spans
 
 pub all_pass_none : (settings : Settings) (h : History) → AllPass settings h []
@@ -128,44 +121,6 @@ module _ {service : Service} {h : History} {connection : ℕ} where
   pub connection_trace_pass : {ended : Ended} {old : ConnectionCursor} {spans : List Span} {new : Progress} → ConnectionTrace service (Replies service.settings h) connection ended old spans new → AllPass service.settings h spans
   connection_trace_pass trace =
       subst (AllPass service.settings h) (sym trace.all) (all_pass_append service.settings h trace.before trace.after (exchanges_pass trace.exchanges) (ends_pass trace.ends))
-
-  -- ---- the account is left consistent
-
-  pub exchanges_sound : {old new : ConnectionCursor} {spans : List Span} → IsConsistent (h.account_at old.progress.store.number) → Exchanges service (Replies service.settings h) connection old spans new
-      → IsConsistent (h.account_at new.progress.store.number)
-  exchanges_sound {old = old} {new = new} {spans = spans} sound exchanges =
-      all_pass_sound service.settings h old.progress.store.number new.progress.store.number spans sound (exchanges_follow exchanges) (exchanges_pass exchanges)
-
-  pub connection_trace_sound : {ended : Ended} {old : ConnectionCursor} {spans : List Span} {new : Progress} → IsConsistent (h.account_at old.progress.store.number)
-      → ConnectionTrace service (Replies service.settings h) connection ended old spans new → IsConsistent (h.account_at new.store.number)
-  connection_trace_sound {old = old} {spans = spans} {new = new} sound trace =
-      all_pass_sound service.settings h old.progress.store.number new.store.number spans sound (connection_trace_follow trace) (connection_trace_pass trace)
-
-  -- ---- and as it is known to be
-
-  pub serves_known : {end : Option Ended} {old new : ConnectionCursor} {span : Span} → IsKnownOf h old.progress.store → Serves service (Replies service.settings h) connection end old span new → IsKnownOf h new.progress.store
-  serves_known known serves = replies_known known serves.exchange.replies
-
-  pub breaks_known : {old : ConnectionCursor} {span : Span} {new : Progress} → IsKnownOf h old.progress.store → Breaks service (Replies service.settings h) connection old span new → IsKnownOf h new.store
-  breaks_known known breaks = replies_known known breaks.exchange.replies
-
-  pub exchanges_known : {old new : ConnectionCursor} {spans : List Span} → IsKnownOf h old.progress.store → Exchanges service (Replies service.settings h) connection old spans new → IsKnownOf h new.progress.store
-  exchanges_known known (none cursor) = known
-  exchanges_known known (more old middle new spans span exchanges serves) = serves_known (exchanges_known known exchanges) serves
-
-  pub ends_known : {ended : Ended} {last : ConnectionCursor} {new : Progress} {spans : List Span} → IsKnownOf h last.progress.store → Ends service (Replies service.settings h) connection ended last new spans → IsKnownOf h new.store
-  ends_known known (over is front same) = subst (λ t. IsKnownOf h t.store) (sym same) known
-  ends_known known (cut is front same) = subst (λ t. IsKnownOf h t.store) (sym same) known
-  ends_known known (served cursor span serves same) = subst (λ t. IsKnownOf h t.store) (sym same) (serves_known known serves)
-  ends_known known (unread heard is only owed sends) = subst (IsKnownOf h) (sym only.store) known
-  ends_known known (unheard is only owed) = subst (IsKnownOf h) (sym only.store) known
-  ends_known known (untold heard is only owed sends) = subst (IsKnownOf h) (sym only.store) known
-  ends_known known (broken span is breaks) = breaks_known known breaks
-  ends_known known (parted span parts) = replies_known known parts.exchange.replies
-
-  pub connection_trace_known : {ended : Ended} {old : ConnectionCursor} {spans : List Span} {new : Progress} → IsKnownOf h old.progress.store
-      → ConnectionTrace service (Replies service.settings h) connection ended old spans new → IsKnownOf h new.store
-  connection_trace_known known trace = ends_known (exchanges_known known trace.exchanges) trace.ends
 
 -- ---- later histories
 

@@ -1,17 +1,22 @@
 -- How requests that are served over a world follow one another.
-use Rattle.std.proofs.Common.{Bool, IsTrue}
+use Rattle.std.proofs.Common.{◌≡◌, Bool, IsTrue}
 use Rattle.gate_base.specs.Line.{LineModel}
 use Rattle.gate_base.specs.Told.{SourceModel}
 use Rattle.s3_machine.specs.declared.operation.Settings.{Settings}
 use Rattle.swift_calls.specs.History.{History, Extends}
 use Rattle.account_calls.specs.declared.state.Known.{Known}
-use Rattle.account_calls.specs.Calls.{Met}
+use Rattle.account_calls.specs.declared.state.Known.TheVariants.{Settled, Unsure}
+use Rattle.account_calls.specs.Calls.{Any, Met}
 use Rattle.account_calls.specs.Known.{IsKnown}
 use Rattle.account_calls.proofs.lemmas.Idle.{goes_none, goes_trans}
 use Rattle.gateway.specs.Exchange.{ReplyRelation, RepliesBy, Where}
 use Rattle.gateway.specs.World.{World, world, IsObservable, Continues, ServesOver}
 use Rattle.gateway.proofs.Replying.{stands_still}
 use Rattle.gateway.proofs.Looping.{where_map, met_now, stands_trans}
+
+-- nothing is known of the store as it is begun with
+pub unsure_met : {h : History} → Met Any h → Met (IsKnown Unsure) h
+unsure_met met = record { observable = met.observable; sound = met.sound; has = λ is. absurd (let clash : Unsure ≡ Settled = is in cc) }
 
 -- what was observable still is
 pub observable_on : {old new : World} → Continues old new → IsObservable old → IsObservable new

@@ -25,7 +25,7 @@ use Rattle.account_calls.proofs.lemmas.Idle.{goes_none, goes_trans}
 use Rattle.account_calls.specs.Told.{Idles}
 use Rattle.account_calls.proofs.lemmas.Walk.{idles_none, idles_trans, cause_after, keeps_after}
 use Rattle.upload_calls.specs.Listing.{told_after, Adds, GoesOnWith, HasOdd, TellsNext}
-use Rattle.upload_calls.proofs.Turned.{turned, ended}
+use Rattle.account_calls.proofs.lemmas.Turned.{turned, ended}
 
 -- ---- one item more
 

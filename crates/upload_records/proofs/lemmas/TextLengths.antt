@@ -58,7 +58,7 @@ escape_short (x ∷ s) =
     let size = length-append (escape_byte x) (escape s) in
     omega (arith, one, later, size)
 
-quoted_short : (s : List ℕ) → length (quoted s) ≤ 6 * length s + 2
+pub quoted_short : (s : List ℕ) → length (quoted s) ≤ 6 * length s + 2
 quoted_short s = let inner = escape_short s in let size = length-append (escape s) (34 ∷ []) in omega (arith, inner, size)
 
 -- a string of at most so many bytes
@@ -220,7 +220,7 @@ sizes (pair ∷ pairs) =
     let bytes = sum_by-cons pair_bytes pair pairs in
     omega (arith, name, more, sum, bytes)
 
-meta_short : (meta : List Pair) → is_proper_meta meta ≡ true → length (compact_text (array_of metadata_pair_json meta)) ≤ 13194
+pub meta_short : (meta : List Pair) → is_proper_meta meta ≡ true → length (compact_text (array_of metadata_pair_json meta)) ≤ 13194
 unfolding is_proper_meta
 meta_short meta e =
     let outer = and_parts (nat_le (length meta) 64 && list_all is_proper_pair meta) (nat_le (sum_by pair_bytes meta) 2048) e in
@@ -230,7 +230,7 @@ meta_short meta e =
     let text = pairs_short false meta in
     omega (arith, few, small, size, text)
 
-type_size : (text : List ℕ) → is_content_type text ≡ true → length text ≤ 256
+pub type_size : (text : List ℕ) → is_content_type text ≡ true → length text ≤ 256
 unfolding is_content_type
 type_size text e =
     let a = (and_parts _ _ e).0 in
@@ -240,7 +240,7 @@ type_size text e =
 
 -- ---- members, from behind
 
-member_short : (later : Bool) (name : List ℕ) (d : Data) (ms : Members) (n m : ℕ) → length name ≤ 7 → length (compact_text d) ≤ n → length (members_text true ms) ≤ m
+pub member_short : (later : Bool) (name : List ℕ) (d : Data) (ms : Members) (n m : ℕ) → length name ≤ 7 → length (compact_text d) ≤ n → length (members_text true ms) ≤ m
     → length (members_text later (member name d ms)) ≤ n + m + 46
 member_short true name d ms n m named one more =
     let quotes = quoted_short name in

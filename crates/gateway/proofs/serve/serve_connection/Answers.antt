@@ -1,9 +1,10 @@
 use Rattle.std.proofs.Common.{ℕ, None, Some, refl, ap, subst, arith}
 use Rattle.http_wire.specs.Reading.{Pending}
+use Rattle.http_service.proofs.lemmas.Lines.{line_serves_on}
 use Rattle.gateway.specs.Exchange.{RepliesBy}
 use Rattle.gateway.specs.Serving.{NextOne}
 use Rattle.gateway.specs.World.{World, world, start_of, cursor_of}
-use Rattle.gateway.proofs.Looping.{answered_agree, answered_more, answered_ends, answered_none, unread_at_once, line_serves_on}
+use Rattle.gateway.proofs.Looping.{answered_agree, answered_more, answered_ends, answered_none, unread_at_once}
 use Rattle.gateway.proofs.lemmas.Worlds.{serves_none, serves_trans}
 use Rattle.gateway.proofs.serve.serve_connection.Goals as goal
 

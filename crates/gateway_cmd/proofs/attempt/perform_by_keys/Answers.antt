@@ -2,23 +2,23 @@ use Rattle.std.proofs.Common.{None, Some, refl, sym, subst}
 use Rattle.gateway_cmd.specs.Facts.{Fits}
 use Rattle.gateway_cmd.specs.declared.status.RunOutcome.TheVariants.{Plain}
 use Rattle.gateway_cmd.specs.Tasks.{task_of}
-use Rattle.gateway_cmd.proofs.Sessions.{as_region, run_session, session_fits}
+use Rattle.gateway_cmd.proofs.Sessions.{as_region, run_session}
 use Rattle.gateway_cmd.proofs.TaskLaws.{draws_apart}
 use Rattle.gateway_cmd.proofs.attempt.perform_by_keys.Goals as goal
 
 pub returns-in-Session-clause-does : goal.returns-in-Session-clause-does
 returns-in-Session-clause-does g c = λ text is. rw c.in-Session.is
-    (run_session (as_region c.in-Session.region c.in-Session.least_part c.in-Session.largest_body c.in-Session.extended None) text c.serve.ensures.serves.0 is c.serve.ensures.line (rw c.settings_of-settings.ensures at c.serve.ensures.serves.1))
+    (run_session (as_region c.in-Session.region c.in-Session.least_part c.in-Session.largest_body c.in-Session.extended None) text c.serve.ensures.serves.0 is (rw c.settings_of-settings.ensures at c.serve.ensures.line) (rw c.settings_of-settings.ensures at c.serve.ensures.serves.1))
 
 pub returns-in-Serve-clause-does : goal.returns-in-Serve-clause-does
 returns-in-Serve-clause-does g c = λ text is. rw c.in-Serve.is
-    (run_session (as_region c.in-Serve.region c.in-Serve.least_part c.in-Serve.largest_body c.in-Serve.extended (Some c.in-Serve.connections)) text c.serve-in-Serve.ensures.serves.0 is c.serve-in-Serve.ensures.line (rw c.settings_of-settings-in-Serve.ensures at c.serve-in-Serve.ensures.serves.1))
+    (run_session (as_region c.in-Serve.region c.in-Serve.least_part c.in-Serve.largest_body c.in-Serve.extended (Some c.in-Serve.connections)) text c.serve-in-Serve.ensures.serves.0 is (rw c.settings_of-settings-in-Serve.ensures at c.serve-in-Serve.ensures.line) (rw c.settings_of-settings-in-Serve.ensures at c.serve-in-Serve.ensures.serves.1))
 
 pub returns-in-Session-clause-fits : goal.returns-in-Session-clause-fits
-returns-in-Session-clause-fits g c = subst (λ command. Fits (task_of (Some command)) (Plain c.serve.result)) (sym c.in-Session.is) (session_fits (as_region c.in-Session.region c.in-Session.least_part c.in-Session.largest_body c.in-Session.extended None) c.serve.result c.serve.ensures.line.ends)
+returns-in-Session-clause-fits g c = subst (λ command. Fits (task_of (Some command)) (Plain c.serve.result)) (sym c.in-Session.is) (rw c.settings_of-settings.ensures at c.serve.ensures.fits)
 
 pub returns-in-Serve-clause-fits : goal.returns-in-Serve-clause-fits
-returns-in-Serve-clause-fits g c = subst (λ command. Fits (task_of (Some command)) (Plain c.serve-in-Serve.result)) (sym c.in-Serve.is) (session_fits (as_region c.in-Serve.region c.in-Serve.least_part c.in-Serve.largest_body c.in-Serve.extended (Some c.in-Serve.connections)) c.serve-in-Serve.result c.serve-in-Serve.ensures.line.ends)
+returns-in-Serve-clause-fits g c = subst (λ command. Fits (task_of (Some command)) (Plain c.serve-in-Serve.result)) (sym c.in-Serve.is) (rw c.settings_of-settings-in-Serve.ensures at c.serve-in-Serve.ensures.fits)
 
 pub returns-in_default-clause-idle : goal.returns-in_default-clause-idle
 returns-in_default-clause-idle g c = λ text is never. let left = c.perform_lent.ensures.idle text is never in (left.0, left.1, left.2, refl)

@@ -4,12 +4,13 @@ use Rattle.swift_calls.proofs.lemmas.Histories.{is_fault_free}
 use Rattle.account_calls.specs.declared.state.Known.TheVariants.{Unsure}
 use Rattle.sign_cmd.specs.Signing.{SignsOn}
 use Rattle.gateway.specs.World.{world}
+use Rattle.gateway.proofs.lemmas.Worlds.{unsure_met}
 use Rattle.gateway_cmd.specs.Facts.{is_serving}
 use Rattle.gateway_cmd.specs.declared.status.Status.TheVariants.{Memory}
 use Rattle.gateway_cmd.specs.Report.{Says}
 use Rattle.gateway_cmd.specs.Tasks.{asked_for}
 use Rattle.gateway_cmd.proofs.Exits.{Exits, says_exits, exits_status, exits_usage, asked_by, exits_asked, exits_done, exits_other, exits_told_of, told_of, admitted, serving_plain, exits_failed_run, serving_line}
-use Rattle.gateway_cmd.proofs.Sessions.{run_traced, run_stands, run_refines, unsure_met}
+use Rattle.gateway_cmd.proofs.Sessions.{run_traced, run_stands, run_refines}
 use Rattle.gateway_cmd.proofs.Recoveries.{store_recovered, was_tried}
 use Rattle.gateway_cmd.proofs.Surveying.{store_surveyed, survey_reports, was_counted}
 use Rattle.gateway_cmd.proofs.SweepRuns.{was_cleared}

@@ -1,6 +1,6 @@
 use Rattle.gateway.specs.World.{World, world}
 use Rattle.gateway.proofs.lemmas.Worlds.{serves_none, serves_after}
-use Rattle.gateway_cmd.proofs.Faulty.{line_serves_next, line_serves_none, line_serves_failed}
+use Rattle.http_service.proofs.lemmas.Faulty.{line_serves_next, line_serves_none, line_serves_failed}
 use Rattle.gateway_cmd.proofs.Sessions.{next_served, next_none}
 use Rattle.gateway_cmd.proofs.session.serve_another.Goals as goal
 

@@ -2,11 +2,11 @@ use Rattle.std.proofs.Common.{◌∙◌, [], subst, refl, sym, inl, arith}
 use Rattle.gate_base.specs.Causes.{RisesIf}
 use Rattle.gateway.specs.World.{World, world}
 use Rattle.gateway.proofs.lemmas.Worlds.{serves_none, serves_trans}
-use Rattle.gateway_cmd.specs.Report.{is_failed_run}
 use Rattle.gateway_cmd.specs.Run.{none, run_cursor_of}
-use Rattle.gateway_cmd.specs.declared.status.RunOutcome.TheVariants.{Plain}
-use Rattle.gateway_cmd.proofs.Counting.{Counts, counts_none, counts_next, counts_same, counts_reached, counts_within}
-use Rattle.gateway_cmd.proofs.Faulty.{none_faulty_of_none, none_faulty_next, done_next}
+use Rattle.http_service.specs.Running.{is_failed_stop}
+use Rattle.http_service.proofs.lemmas.Counting.{Counts, counts_none, counts_next, counts_same, counts_reached, counts_within}
+use Rattle.http_service.proofs.lemmas.Faulty.{none_faulty_next, done_next}
+use Rattle.http_service.proofs.lemmas.NoneFaulty.{none_faulty_of_none}
 use Rattle.gateway_cmd.proofs.Sessions.{run_traces_more, run_traces_end}
 use Rattle.gateway_cmd.proofs.session.session.Goals as goal
 
@@ -25,8 +25,8 @@ returns-then-is_session_limit_reached-clause-line g c =
     let old = (g.N.Line.model c.args.line.now).transcript in
     let new = (g.N.Line.model c.connections.line).transcript in
     record {
-      ends = refl;
       next_faults = i.next_faults;
+      observable = i.serves.on.line;
       done = λ observable is. counts_reached c.args.most c.connections.left old new (c.is_session_limit_reached.ensures.none c.if-is_session_limit_reached.true) (i.counts observable);
       within = λ observable. counts_within c.args.most c.connections.left old new (i.counts observable);
       none_faulty = i.none_faulty;
@@ -40,11 +40,11 @@ returns-in-Some-clause-line g c =
     let i = c.connections.invariant in
     let s = c.in-Some.ensures.line in
     record {
-      ends = s.ends;
-      next_faults = subst (λ n. RisesIf (is_failed_run (Plain c.in-Some.status)) n (g.N.Line.model c.serve_another.new.line).next_faults) i.next_faults s.next_faults;
+      next_faults = subst (λ n. RisesIf (is_failed_stop c.in-Some.stopped) n (g.N.Line.model c.serve_another.new.line).next_faults) i.next_faults s.next_faults;
+      observable = λ observable. s.observable (i.serves.on.line observable);
       done = λ observable is. inl (done_next s (i.serves.on.line observable) is);
       within = λ observable. counts_within c.args.most c.connections.left (g.N.Line.model c.args.line.now).transcript (g.N.Line.model c.serve_another.new.line).transcript
-          (counts_same c.args.most c.connections.left c.in-Some.status _ (g.N.Line.model c.connections.line).transcript.begun _ (i.counts observable) (s.begun (i.serves.on.line observable)));
+          (counts_same c.args.most c.connections.left c.in-Some.stopped _ (g.N.Line.model c.connections.line).transcript.begun _ (i.counts observable) (s.begun (i.serves.on.line observable)));
       none_faulty = none_faulty_next (g.N.Line.model c.args.line.now) (g.N.Line.model c.connections.line) (g.N.Line.model c.serve_another.new.line) i.serves.on.line i.faults i.none_faulty s;
     }
 
@@ -53,7 +53,7 @@ returns-in-Some-clause-serves g c =
     let begin : World = world (g.N.Line.model c.args.line.now) (g.W.Swift.history c.args.store.now) c.args.known.now (g.C.Clock.model c.args.clock.now) (g.D.Draws.model c.args.draws.now) in
     let present : World = world (g.N.Line.model c.connections.line) (g.W.Swift.history c.connections.store) c.connections.known (g.C.Clock.model c.connections.clock) (g.D.Draws.model c.connections.draws) in
     let next : World = world (g.N.Line.model c.serve_another.new.line) (g.W.Swift.history c.serve_another.new.store) c.serve_another.new.known (g.C.Clock.model c.serve_another.new.clock) (g.D.Draws.model c.serve_another.new.draws) in
-    serves_trans {old = begin} {middle = present} {new = next} c.connections.invariant.serves c.in-Some.ensures.serves (λ told all kept traces one. run_traces_end all c.args.service.now begin present next c.in-Some.status kept traces one)
+    serves_trans {old = begin} {middle = present} {new = next} c.connections.invariant.serves c.in-Some.ensures.serves (λ told all kept traces one. run_traces_end all c.args.service.now begin present next c.in-Some.stopped kept traces one)
 
 pub connections-preserved : goal.connections-preserved
 connections-preserved g c =

@@ -2,8 +2,8 @@ use Rattle.std.proofs.Common.{◌≡◌, ◌≤◌, ◌-◌, ◌^◌, IsTrue}
 use Rattle.gate_base.specs.Causes.{Rose}
 use Rattle.gateway.specs.World.{world, ServesOver}
 use Rattle.gateway_cmd.specs.Run.{RunTraces}
-use Rattle.gateway_cmd.specs.Session.{NoneFaulty}
-use Rattle.gateway_cmd.proofs.Counting.{Counts}
+use Rattle.http_service.specs.Running.{NoneFaulty}
+use Rattle.http_service.proofs.lemmas.Counting.{Counts}
 use Rattle.gateway_cmd.proofs.session.session.Given as goal
 
 abbrev pub invariant-connections : goal.invariant-connections

@@ -2,8 +2,8 @@ use Rattle.std.proofs.Common.{◌∙◌, [], subst, refl, sym, inl, arith}
 use Rattle.gate_base.specs.Causes.{RisesIf}
 use Rattle.http_service.specs.Trace.{none}
 use Rattle.http_service.specs.Running.{is_failed_stop, run_cursor}
-use Rattle.http_service.proofs.Counting.{Counts, counts_none, counts_next, counts_same, counts_reached, counts_within}
-use Rattle.http_service.proofs.Faulty.{none_faulty_next, done_next}
+use Rattle.http_service.proofs.lemmas.Counting.{Counts, counts_none, counts_next, counts_same, counts_reached, counts_within}
+use Rattle.http_service.proofs.lemmas.Faulty.{none_faulty_next, done_next}
 use Rattle.http_service.proofs.Runs.{served_on, served_more, served_end}
 use Rattle.http_service.proofs.lemmas.NoneFaulty.{none_faulty_of_none}
 use Rattle.http_service.proofs.run.serve_all.Goals as goal

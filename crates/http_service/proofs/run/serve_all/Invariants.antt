@@ -1,7 +1,7 @@
 use Rattle.std.proofs.Common.{◌≡◌, ◌≤◌, ◌-◌, ◌^◌, IsTrue}
 use Rattle.gate_base.specs.Causes.{Rose}
 use Rattle.http_service.specs.Running.{NoneFaulty, run_cursor}
-use Rattle.http_service.proofs.Counting.{Counts}
+use Rattle.http_service.proofs.lemmas.Counting.{Counts}
 use Rattle.http_service.proofs.Runs.{Served}
 use Rattle.http_service.proofs.run.serve_all.Given as goal
 

@@ -1,6 +1,6 @@
 use Rattle.std.proofs.Common.{Err, ap, sym, subst, inr}
 use Rattle.upload_texts.specs.Records.{ReadsRecord}
-use Rattle.leftovers.proofs.lemmas.Versions.{none_of_version}
+use Rattle.upload_texts.proofs.lemmas.RecordVersions.{none_of_version}
 use Rattle.leftovers.specs.Gathering.{open_by}
 use Rattle.leftovers.proofs.gathering.is_open_in_text.Goals as goal
 

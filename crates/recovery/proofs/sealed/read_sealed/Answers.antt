@@ -2,7 +2,7 @@ use Rattle.std.proofs.Common.{Err, ap, sym, subst, inr}
 use Rattle.upload_texts.specs.Sealed.{ReadsSealed}
 use Rattle.upload_records.proofs.lemmas.SealedTexts.{sealed_has}
 use Rattle.account_calls.specs.Interpret.{known}
-use Rattle.recovery.proofs.SealedVersions.{none_of_version}
+use Rattle.upload_texts.proofs.lemmas.SealedVersions.{none_of_version}
 use Rattle.recovery.proofs.sealed.read_sealed.Goals as goal
 
 pub returns-in-Ok-clause-has : goal.returns-in-Ok-clause-has

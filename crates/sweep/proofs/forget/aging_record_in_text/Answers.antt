@@ -2,7 +2,7 @@ use Rattle.std.proofs.Common.{Err, ap, sym, subst, inr}
 use Rattle.upload_texts.specs.Records.{ReadsRecord}
 use Rattle.sweep.specs.Aging.{record_by}
 use Rattle.sweep.proofs.AgesOne.{record_has}
-use Rattle.leftovers.proofs.lemmas.Versions.{none_of_version}
+use Rattle.upload_texts.proofs.lemmas.RecordVersions.{none_of_version}
 use Rattle.sweep.proofs.forget.aging_record_in_text.Goals as goal
 
 pub returns-in-Ok-clause-has : goal.returns-in-Ok-clause-has

@@ -11,7 +11,7 @@ use Rattle.upload_calls.specs.Listing.{id_due}
 use Rattle.upload_calls.specs.Records.{InBucket}
 use Rattle.upload_calls.proofs.lemmas.RecordIds.{all_ids}
 use Rattle.upload_calls.proofs.lemmas.Taking.{as_page, not_added, tells_next}
-use Rattle.upload_calls.proofs.Turned.{next_may_be}
+use Rattle.account_calls.proofs.lemmas.Turned.{next_may_be}
 use Rattle.upload_calls.proofs.listed_ids.next_record_ids.Goals as goal
 
 pub returns-in_err-folder-clause-asks : goal.returns-in_err-folder-clause-asks

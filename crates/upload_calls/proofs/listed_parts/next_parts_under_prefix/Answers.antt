@@ -9,7 +9,7 @@ use Rattle.upload_calls.specs.Listing.{part_due}
 use Rattle.upload_calls.specs.Records.{HasOnlyParts}
 use Rattle.upload_calls.proofs.lemmas.PartWalk.{all_parts}
 use Rattle.upload_calls.proofs.lemmas.Taking.{as_page, not_added, tells_next}
-use Rattle.upload_calls.proofs.Turned.{next_may_be}
+use Rattle.account_calls.proofs.lemmas.Turned.{next_may_be}
 use Rattle.upload_calls.proofs.listed_parts.next_parts_under_prefix.Goals as goal
 
 pub returns-in_err-page-clause-asks : goal.returns-in_err-page-clause-asks

@@ -1,4 +1,4 @@
-use Rattle.upload_calls.proofs.Dated.{stamp_is_dated}
+use Rattle.list_pages.proofs.lemmas.Dated.{stamp_is_dated}
 use Rattle.upload_calls.proofs.listed_parts.part_in.Goals as goal
 
 pub returns-clause-dated : goal.returns-clause-dated

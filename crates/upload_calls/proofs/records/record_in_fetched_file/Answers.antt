@@ -1,7 +1,7 @@
 use Rattle.std.proofs.Common.{Err, ap, sym, subst, inr}
 use Rattle.upload_texts.specs.Records.{ReadsRecord}
 use Rattle.account_calls.specs.Interpret.{known}
-use Rattle.upload_calls.proofs.Versions.{none_of_version}
+use Rattle.upload_texts.proofs.lemmas.RecordVersions.{none_of_version}
 use Rattle.upload_calls.proofs.records.record_in_fetched_file.Goals as goal
 
 pub returns-in-Err-Version-clause-due : goal.returns-in-Err-Version-clause-due

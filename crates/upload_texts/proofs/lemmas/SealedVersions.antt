@@ -1,59 +1,34 @@
 -- What reads as a sealed completion has the first version: a text of another version is none.
-use Rattle.std.specs.Prelude.{◌≡◌, ◌<◌, ◌≤◌, ◌^◌, ℕ, Bool, true, false, ◌&&◌, cond, nat_le, nat_lt, List, [], ◌∷◌, map, length, bytes_eq, Option, None, Some}
+use Rattle.std.specs.Prelude.{◌≡◌, ◌<◌, ◌≤◌, ◌^◌, ℕ, Bool, true, false, ◌&&◌, cond, nat_le, nat_lt, List, [], ◌∷◌, map, length, Option, None, Some}
 use Rattle.std.specs.List.{list_all}
-use Rattle.std.specs.Option.{option_and_then, unwrap_or}
+use Rattle.std.specs.Option.{unwrap_or}
 use Rattle.std.specs.Str.{is_utf8}
-use Rattle.std.proofs.Common.{refl, sym, ap, ◌∙◌, arith, append-nil}
-use Rattle.std.proofs.lemmas.Bool.{and_parts, ltb-true, leb-true}
-use Rattle.std.proofs.lemmas.Slice.Eq.{bytes_eq-Decides}
-use Rattle.json.specs.Json as json
-use Rattle.json.specs.Lex.{tokens}
+use Rattle.std.proofs.Common.{refl, sym, ap, ◌∙◌, arith}
+use Rattle.std.proofs.lemmas.Bool.{and_parts, leb-true}
 use Rattle.json.specs.Tree as tree
-use Rattle.json.specs.Tree.{json_tokens, HasNumbers, ItemsHaveNumbers}
+use Rattle.json.specs.Tree.{ItemsHaveNumbers}
 use Rattle.json.proofs.Printed.Decimals.{IsNumber-decimal}
-use Rattle.json.proofs.Printed.Tokens.{tokens-print}
-use Rattle.json.proofs.Printed.Trees.{value-json_tokens, ArePrintable-json_tokens}
-use Rattle.serde_json.specs.Data.{Data, null}
-use Rattle.serde_json.specs.Read.{max_depth, of_items, of_json, read}
+use Rattle.serde_json.specs.Data.{null}
+use Rattle.serde_json.specs.Read.{of_items, read}
 use Rattle.serde_json.specs.View.{items_of}
-use Rattle.serde_json.specs.Written.{compact_text, items_outline, outline}
+use Rattle.serde_json.specs.Written.{items_outline}
 use Rattle.serde_json.proofs.Numbers.{number_of-decimal}
-use Rattle.serde_json.proofs.Texts.{print-outline}
 use Rattle.gate_base.specs.Told.{moment_limit}
-use Rattle.gate_base.specs.declared.page.Pair.{Pair}
 use Rattle.s3_machine.specs.Limits.{most_body_bytes}
-use Rattle.s3_machine.specs.Uploads.{greatest_part}
 use Rattle.slo_manifest.specs.Segments.{is_etag}
 use Rattle.swift_marks.specs.Tag as mark
-use Rattle.upload_texts.specs.Places.{json_or_null, metadata_pair_json, is_part_count, part_number_fits_record_text, version_in, version_of}
+use Rattle.upload_texts.specs.Places.{is_part_count, part_number_fits_record_text, version_in, version_of}
 use Rattle.upload_texts.specs.Records.{content_fits_record_text, unless_known_record_version}
-use Rattle.upload_texts.specs.Sealed.{has_sealed_text, is_first_version, is_sealed_dated, is_sealed_list, part_fits_sealed_text, is_sealed_place, sealed_part_json, read_sealed, sealed_in, sealed_text, sealed_value}
+use Rattle.upload_texts.specs.Sealed.{has_sealed_text, is_first_version, is_sealed_dated, is_sealed_list, part_fits_sealed_text, is_sealed_place, sealed_part_json, read_sealed, sealed_text, sealed_value}
 use Rattle.upload_texts.specs.declared.sealed.Sealed.{Sealed}
 use Rattle.upload_texts.specs.declared.sealed.SealedPart.{SealedPart}
+use Rattle.upload_texts.proofs.lemmas.Back.{sealed_has_one}
+use Rattle.upload_texts.proofs.lemmas.ReadBack.{part_small, dated_small, pairs_read, pairs_numbers, pairs_depth, one_small, IsReadBack, text_reads}
 
 -- ---- the value of a sealed completion is read back from its text
 
-part_small : (n : ℕ) → part_number_fits_record_text n ≡ true → n < 2 ^ 64
-unfolding greatest_part
-part_small n e = let near = leb-true n greatest_part (and_parts (nat_le 1 n) (nat_le n greatest_part) e).1 in omega (arith, near)
-
 size_small : (n : ℕ) → nat_le n most_body_bytes ≡ true → n < 2 ^ 64
 size_small n e = let near = leb-true n most_body_bytes e in omega (arith, near)
-
-dated_small : (n : ℕ) → nat_lt n moment_limit ≡ true → n < 2 ^ 64
-dated_small n e = let near = ltb-true n moment_limit e in omega (arith, near)
-
-pairs_read : (ps : List Pair) → of_items (items_outline (items_of (map metadata_pair_json ps))) ≡ Some (items_of (map metadata_pair_json ps))
-pairs_read [] = refl
-pairs_read (p ∷ ps) = rw (pairs_read ps) refl
-
-pairs_numbers : (ps : List Pair) → ItemsHaveNumbers (items_outline (items_of (map metadata_pair_json ps)))
-pairs_numbers [] = tt
-pairs_numbers (p ∷ ps) = ((tt, (tt, tt)), pairs_numbers ps)
-
-pairs_depth : (ps : List Pair) → tree.items_depth (items_outline (items_of (map metadata_pair_json ps))) ≤ 1
-pairs_depth [] = omega arith
-pairs_depth (p ∷ ps) = let later = pairs_depth ps in omega arith
 
 record IsSmall (p : SealedPart) : Type 0 where
   number : p.number < 2 ^ 64
@@ -82,12 +57,6 @@ parts_depth : (ps : List SealedPart) → tree.items_depth (items_outline (items_
 parts_depth [] = omega arith
 parts_depth (p ∷ ps) = let later = parts_depth ps in omega arith
 
--- what is asked of the value
-record IsReadBack (d : Data) : Type 0 where
-  numbers : HasNumbers (outline d)
-  shallow : tree.depth (outline d) ≤ max_depth
-  same : of_json (outline d) ≡ Some d
-
 record OfSealed (s : Sealed) : Type 0 where
   parts : list_all part_fits_sealed_text s.list ≡ true
   started : s.started < 2 ^ 64
@@ -105,9 +74,6 @@ of_sealed s has =
       moment = dated_small s.moment dates.1;
     }
 
-one_small : 1 < 2 ^ 64
-one_small = omega arith
-
 reads_back : (s : Sealed) → has_sealed_text s ≡ true → IsReadBack (sealed_value s)
 reads_back s has =
     let is = of_sealed s has in
@@ -118,14 +84,6 @@ reads_back s has =
       shallow = omega (arith, few, short);
       same = rw (number_of-decimal s.moment is.moment, number_of-decimal s.started is.started, number_of-decimal 1 one_small, parts_read s.list is.parts, pairs_read s.meta) refl;
     }
-
-text_reads : (d : Data) → IsReadBack d → read (compact_text d) ≡ Some d
-text_reads d back =
-    let ts = json_tokens (outline d) in
-    let lexed : tokens (compact_text d) ≡ ts = ap tokens (sym (print-outline d)) ∙ tokens-print ts (ArePrintable-json_tokens (outline d) back.numbers) in
-    ap (λ ts. option_and_then of_json (option_and_then (λ p. json.if_last p.0 p.1) (json.value max_depth ts))) (lexed ∙ sym (append-nil ts))
-    ∙ ap (λ o. option_and_then of_json (option_and_then (λ p. json.if_last p.0 p.1) o)) (value-json_tokens (outline d) max_depth [] back.shallow)
-    ∙ back.same
 
 -- ---- the version
 
@@ -141,18 +99,8 @@ module _ (text : List ℕ) (s : Sealed) (has : has_sealed_text s ≡ true) (is :
   version_by true = ap (λ v. unless_known_record_version is_first_version (version_in (unwrap_or v null))) value_read ∙ version_known s
   version_by false = refl
 
--- a value that passes the test and has the text is found, and no other one
-found_of : {A : Type 0} (a b : A) (t : Bool) → cond t (Some a) None ≡ Some b → (t ≡ true) × (a ≡ b)
-found_of a b true same = (refl, cc)
-found_of a b false never = cc
-
 known_by : (text : List ℕ) (s : Sealed) → read_sealed text ≡ Some s → unless_known_record_version is_first_version (version_of text) ≡ None
-unfolding read_sealed
-known_by text s reads =
-    let found = sealed_in (json_or_null text) in
-    let is = found_of found s (has_sealed_text found && bytes_eq (sealed_text found) text) reads in
-    let parts = and_parts (has_sealed_text found) (bytes_eq (sealed_text found) text) is.0 in
-    version_by text found parts.0 (sym ((bytes_eq-Decides (sealed_text found) text).0 parts.1)) (is_utf8 text)
+known_by text s reads = let one = sealed_has_one text s reads in version_by text s one.0 one.1 (is_utf8 text)
 
 -- a text of another version is no sealed completion
 pub none_of_version : (text : List ℕ) (version : ℕ) → unless_known_record_version is_first_version (version_of text) ≡ Some version → read_sealed text ≡ None

@@ -1,6 +1,7 @@
 -- One page of a container after another, and the names of a page.
-use Rattle.std.proofs.Common.{◌≡◌, ℕ, zero, suc, ◌-◌, ◌<◌, ◌≤◌, Bool, true, false, cond, nat_lt, T, List, [], ◌∷◌, ◌++◌, map, length, take, drop, slice_get, Some, None, refl, sym, ap, ◌∙◌, arith}
+use Rattle.std.proofs.Common.{◌≡◌, ℕ, zero, suc, ◌-◌, ◌<◌, ◌≤◌, Bool, true, false, cond, nat_lt, T, List, [], ◌∷◌, ◌++◌, map, length, take, drop, slice_get, Option, Some, None, refl, sym, ap, ◌∙◌, arith}
 use Rattle.std.specs.List.{list_all}
+use Rattle.std.specs.Prelude.{IfSome}
 use Rattle.std.specs.FinMap.{entries, entries_sorted, is_sorted}
 use Rattle.std.proofs.lemmas.Bool.{and_parts}
 use Rattle.std.proofs.lemmas.Bool.Decides.{nat_tests}
@@ -118,3 +119,8 @@ module _ (prefix marker : List ℕ) (fs : Names SwiftObject) where
   ended told is none =
       let few = none_is (map name_in told) none in
       is ∙ short 1000 (items_after prefix marker fs) (omega (arith, few, length-map told name_in, ap length is))
+
+-- the marker of the next page may be one
+pub next_may_be : (prefix : List ℕ) (page : List NameItem) (next : Option (List ℕ)) → next ≡ next_after (map name_in page) → list_all (is_listed_name_with_prefix prefix) (map name_in page) ≡ true → IfSome next IsMarker
+next_may_be prefix page None is named = tt
+next_may_be prefix page (Some next) is named = next_is_marker prefix (map name_in page) next named (sym is)

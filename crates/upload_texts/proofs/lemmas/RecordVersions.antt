@@ -1,56 +1,32 @@
 -- What reads as a record has a version that is known: a text of another version is none.
-use Rattle.std.specs.Prelude.{◌≡◌, ◌<◌, ◌≤◌, ◌^◌, ℕ, Bool, true, false, ◌&&◌, cond, nat_le, nat_lt, List, [], ◌∷◌, map, length, bytes_eq, Option, None, Some}
+use Rattle.std.specs.Prelude.{◌≡◌, ◌<◌, ◌≤◌, ◌^◌, ℕ, Bool, true, false, cond, nat_lt, List, [], ◌∷◌, map, length, Option, None, Some}
 use Rattle.std.specs.List.{list_all}
-use Rattle.std.specs.Option.{option_and_then, unwrap_or}
+use Rattle.std.specs.Option.{unwrap_or}
 use Rattle.std.specs.Str.{is_utf8}
-use Rattle.std.proofs.Common.{refl, sym, ap, ◌∙◌, arith, append-nil}
-use Rattle.std.proofs.lemmas.Bool.{and_parts, ltb-true, leb-true}
-use Rattle.std.proofs.lemmas.Slice.Eq.{bytes_eq-Decides}
-use Rattle.json.specs.Json as json
-use Rattle.json.specs.Lex.{tokens}
+use Rattle.std.proofs.Common.{refl, sym, ap, ◌∙◌, arith}
+use Rattle.std.proofs.lemmas.Bool.{and_parts}
 use Rattle.json.specs.Tree as tree
-use Rattle.json.specs.Tree.{json_tokens, HasNumbers, ItemsHaveNumbers}
+use Rattle.json.specs.Tree.{ItemsHaveNumbers}
 use Rattle.json.proofs.Printed.Decimals.{IsNumber-decimal}
-use Rattle.json.proofs.Printed.Tokens.{tokens-print}
-use Rattle.json.proofs.Printed.Trees.{value-json_tokens, ArePrintable-json_tokens}
-use Rattle.serde_json.specs.Data.{Data, null}
-use Rattle.serde_json.specs.Read.{max_depth, of_items, of_json, read}
+use Rattle.serde_json.specs.Data.{null}
+use Rattle.serde_json.specs.Read.{of_items, read}
 use Rattle.serde_json.specs.View.{items_of}
-use Rattle.serde_json.specs.Written.{compact_text, items_outline, outline}
+use Rattle.serde_json.specs.Written.{items_outline}
 use Rattle.serde_json.proofs.Numbers.{number_of-decimal}
-use Rattle.serde_json.proofs.Texts.{print-outline}
 use Rattle.gate_base.specs.Told.{moment_limit}
 use Rattle.gate_base.specs.declared.page.Pair.{Pair}
-use Rattle.s3_machine.specs.Uploads.{greatest_part}
 use Rattle.s3_machine.specs.declared.operation.Listed.{Listed}
 use Rattle.s3_names.specs.Key.{is_key}
 use Rattle.slo_manifest.specs.Segments.{is_etag}
 use Rattle.swift_marks.specs.Tag as mark
-use Rattle.upload_texts.specs.Places.{json_or_null, record_part_json, metadata_pair_json, is_part_count, part_number_fits_record_text, version_in, version_of}
-use Rattle.upload_texts.specs.Records.{has_record_text, is_dated, content_fits_record_text, list_fits_record_text, part_fits_record_text, is_known_version, read_record, record_in, record_text, record_value, unless_known_record_version}
+use Rattle.upload_texts.specs.Places.{record_part_json, is_part_count, part_number_fits_record_text, version_in, version_of}
+use Rattle.upload_texts.specs.Records.{has_record_text, is_dated, content_fits_record_text, list_fits_record_text, part_fits_record_text, is_known_version, read_record, record_text, record_value, unless_known_record_version}
 use Rattle.upload_texts.specs.declared.record.Record.{Record}
 use Rattle.upload_texts.specs.declared.record.Record.TheVariants.{Open, Done}
+use Rattle.upload_texts.proofs.lemmas.Back.{record_has_one}
+use Rattle.upload_texts.proofs.lemmas.ReadBack.{part_small, dated_small, pairs_read, pairs_numbers, pairs_depth, one_small, IsReadBack, text_reads}
 
 -- ---- the value of a record is read back from its text
-
-part_small : (n : ℕ) → part_number_fits_record_text n ≡ true → n < 2 ^ 64
-unfolding greatest_part
-part_small n e = let near = leb-true n greatest_part (and_parts (nat_le 1 n) (nat_le n greatest_part) e).1 in omega (arith, near)
-
-dated_small : (n : ℕ) → nat_lt n moment_limit ≡ true → n < 2 ^ 64
-dated_small n e = let near = ltb-true n moment_limit e in omega (arith, near)
-
-pairs_read : (ps : List Pair) → of_items (items_outline (items_of (map metadata_pair_json ps))) ≡ Some (items_of (map metadata_pair_json ps))
-pairs_read [] = refl
-pairs_read (p ∷ ps) = rw (pairs_read ps) refl
-
-pairs_numbers : (ps : List Pair) → ItemsHaveNumbers (items_outline (items_of (map metadata_pair_json ps)))
-pairs_numbers [] = tt
-pairs_numbers (p ∷ ps) = ((tt, (tt, tt)), pairs_numbers ps)
-
-pairs_depth : (ps : List Pair) → tree.items_depth (items_outline (items_of (map metadata_pair_json ps))) ≤ 1
-pairs_depth [] = omega arith
-pairs_depth (p ∷ ps) = let later = pairs_depth ps in omega arith
 
 listed_read : (ls : List Listed) → list_all part_fits_record_text ls ≡ true → of_items (items_outline (items_of (map record_part_json ls))) ≡ Some (items_of (map record_part_json ls))
 listed_read [] e = refl
@@ -70,12 +46,6 @@ listed_depth : (ls : List Listed) → tree.items_depth (items_outline (items_of 
 listed_depth [] = omega arith
 listed_depth (l ∷ ls) = let later = listed_depth ls in omega arith
 
--- what is asked of the value
-record IsReadBack (d : Data) : Type 0 where
-  numbers : HasNumbers (outline d)
-  shallow : tree.depth (outline d) ≤ max_depth
-  same : of_json (outline d) ≡ Some d
-
 started_open : (key content_type : List ℕ) (meta : List Pair) (started : ℕ) → has_record_text (Open key content_type meta started) ≡ true → started < 2 ^ 64
 unfolding has_record_text
 started_open key content_type meta started has =
@@ -92,9 +62,6 @@ of_done key list etag started moment has =
     let listed = and_parts (list_fits_record_text list) _ (and_parts (is_key key) _ has).1 in
     let last = and_parts (nat_lt started moment_limit) (is_dated moment) (and_parts (mark.is_etag etag) _ listed.1).1 in
     record { kept = (and_parts (is_part_count (length list)) (list_all part_fits_record_text list) listed.0).1; small = dated_small started last.0; dated = last.1 }
-
-one_small : 1 < 2 ^ 64
-one_small = omega arith
 
 two_small : 2 < 2 ^ 64
 two_small = omega arith
@@ -126,14 +93,6 @@ reads_back (Done key list etag started (Some moment)) has =
       same = rw (number_of-decimal started done.small, number_of-decimal moment small, number_of-decimal 2 two_small, listed_read list done.kept) refl;
     }
 
-text_reads : (d : Data) → IsReadBack d → read (compact_text d) ≡ Some d
-text_reads d back =
-    let ts = json_tokens (outline d) in
-    let lexed : tokens (compact_text d) ≡ ts = ap tokens (sym (print-outline d)) ∙ tokens-print ts (ArePrintable-json_tokens (outline d) back.numbers) in
-    ap (λ ts. option_and_then of_json (option_and_then (λ p. json.if_last p.0 p.1) (json.value max_depth ts))) (lexed ∙ sym (append-nil ts))
-    ∙ ap (λ o. option_and_then of_json (option_and_then (λ p. json.if_last p.0 p.1) o)) (value-json_tokens (outline d) max_depth [] back.shallow)
-    ∙ back.same
-
 -- ---- the version
 
 version_known : (r : Record) → unless_known_record_version is_known_version (version_in (record_value r)) ≡ None
@@ -150,18 +109,8 @@ module _ (text : List ℕ) (r : Record) (has : has_record_text r ≡ true) (is :
   version_by true = ap (λ v. unless_known_record_version is_known_version (version_in (unwrap_or v null))) value_read ∙ version_known r
   version_by false = refl
 
--- a value that passes the test and has the text is found, and no other one
-found_of : {A : Type 0} (a b : A) (t : Bool) → cond t (Some a) None ≡ Some b → (t ≡ true) × (a ≡ b)
-found_of a b true same = (refl, cc)
-found_of a b false never = cc
-
 known_by : (text : List ℕ) (r : Record) → read_record text ≡ Some r → unless_known_record_version is_known_version (version_of text) ≡ None
-unfolding read_record
-known_by text r reads =
-    let s = record_in (json_or_null text) in
-    let found = found_of s r (has_record_text s && bytes_eq (record_text s) text) reads in
-    let parts = and_parts (has_record_text s) (bytes_eq (record_text s) text) found.0 in
-    version_by text s parts.0 (sym ((bytes_eq-Decides (record_text s) text).0 parts.1)) (is_utf8 text)
+known_by text r reads = let one = record_has_one text r reads in version_by text r one.0 one.1 (is_utf8 text)
 
 -- a text of another version is no record
 pub none_of_version : (text : List ℕ) (version : ℕ) → unless_known_record_version is_known_version (version_of text) ≡ Some version → read_record text ≡ None
