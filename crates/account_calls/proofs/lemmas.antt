@@ -22,6 +22,7 @@ pub mod Refusals
 pub mod Removal
 pub mod Replies
 pub mod SealStands
+pub mod SealedNames
 pub mod Segments
 pub mod SideNames
 pub mod Sides

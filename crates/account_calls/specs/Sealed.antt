@@ -1,16 +1,32 @@
--- What is put of a completion that is sealed, and of a copy that is laid out like one. Source: Object Storage API v1, "Static large
+-- What is read and put of a completion that is sealed, and what is put of a copy that is laid out like one. Source: Object Storage API v1, "Static large
 -- objects", and this profile.
-use Rattle.std.specs.Prelude.{◌+◌, ℕ, List, [], ◌∷◌, codes}
+use Rattle.std.specs.Prelude.{◌+◌, ℕ, Bool, true, false, List, [], ◌∷◌, Option, None, Result, Ok, Err, codes}
 use Rattle.s3_names.specs.Id.{id_digits}
 use Rattle.slo_manifest.specs.declared.Segment.{Segment}
+use Rattle.swift_calls.specs.declared.calls.SwiftReply.{SwiftReply}
+use Rattle.swift_calls.specs.declared.calls.SwiftReply.TheVariants.{NotFound, Bytes}
 use Rattle.swift_calls.specs.declared.calls.SwiftRequest.{SwiftRequest}
 use Rattle.swift_calls.specs.declared.calls.SwiftRequest.TheVariants.{PutManifest, PutObject}
 use Rattle.swift_marks.specs.Pack.{pack_of}
 use Rattle.swift_marks.specs.Tag.{tag_text}
 use Rattle.upload_texts.specs.Records.{record_text}
+use Rattle.upload_texts.specs.Sealed.{read_sealed}
 use Rattle.upload_texts.specs.declared.sealed.Sealed.{Sealed}
 use Rattle.upload_records.specs.Layout.{uploads_name, segments_name, sub_manifest_name}
 use Rattle.upload_records.specs.Native.{sealed_record, sealed_tag, filled_parts, listing_of, run, sealed_segments, sub_tag}
+use Rattle.account_calls.specs.declared.fault.PlanFault.{PlanFault}
+use Rattle.account_calls.specs.declared.fault.PlanFault.TheVariants.{Inconsistent}
+use Rattle.account_calls.specs.Interpret.{known}
+
+abbrev pub sealed_by : Bool → List ℕ → Result (Option Sealed) PlanFault
+sealed_by true text = Err Inconsistent
+sealed_by false text = known (read_sealed text)
+
+-- GET of the file of what is sealed: what its own bytes read as; one that lists segments is none
+abbrev pub sealed_due : SwiftReply → Result (Option Sealed) PlanFault
+sealed_due (Bytes head body) = sealed_by head.manifest body
+sealed_due NotFound = Ok None
+sealed_due _ = Err Inconsistent
 
 -- the PUT of an object that lists these segments, or has no byte where there are none
 abbrev pub put_by : List ℕ → List ℕ → List ℕ → List (List ℕ) → List Segment → SwiftRequest

@@ -30,6 +30,6 @@ pub use listing::{container_names, list_buckets};
 pub use object::{delete_object, get_object, head_object, put_object};
 pub use plans::{PlansOf, plans_of, reply_of, taken_text};
 pub use puts::etag_of_put;
-pub use sealed::{object_request, sealed_segments};
+pub use sealed::{interpret_sealed_get, object_request, sealed_segments};
 pub use state::{Known, Settled, ask};
 pub use sub_manifests::{sub_manifest_count, sub_manifest_request};

@@ -1,22 +1,57 @@
-//! What is put of a completion that is sealed, or of a copy that is laid out like one: its object.
-ghost use Rattle.std.specs.Prelude.{◌≡◌, ◌∷◌, ◌++◌, [], map, Some, true, IfOk, OnOk};
+//! What is read of a completion that is sealed; and what is put of it, or of a copy that is laid out like one: its object.
+ghost use Rattle.std.specs.Prelude.{◌≡◌, ◌≢◌, ◌∷◌, ◌++◌, [], map, Some, true, Err, IfOk, IfSome, OnOk};
 ghost use Rattle.std.specs.List.{list_all};
 ghost use Rattle.s3_names.specs.Id.{id_digits};
 ghost use Rattle.swift_calls.specs.Step.{Fit};
 ghost use Rattle.swift_marks.specs.Tag.{tag_text};
-ghost use Rattle.upload_texts.specs.Sealed.{has_sealed_text, part_fits_sealed_text};
+ghost use Rattle.upload_texts.specs.Sealed.{has_sealed_text, part_fits_sealed_text, read_sealed};
 ghost use Rattle.upload_records.specs.Native.{filled_parts, part_segment, part_segments, sealed_segments, sealed_tag};
-ghost use Rattle.account_calls.specs.Sealed.{put_by, put_object_of, sealed_listing};
+ghost use Rattle.account_calls.specs.Interpret.{Gives, known};
+ghost use Rattle.account_calls.specs.Sealed.{put_by, put_object_of, sealed_due, sealed_listing};
+ghost use Rattle.account_calls.specs.declared.fault.PlanFault.TheVariants as fault;
 
+use crate::fault::PlanFault;
 use crate::sub_manifests::listing_of_segments;
 use gate_base::{Bytes, Copying, List, Memory};
 use s3_names::id_digits;
 use slo_manifest::Segment;
 use std::alloc::Global;
-use swift_calls::SwiftRequest;
+use swift_calls::{SwiftReply, SwiftRequest};
 use swift_marks::{Tag, pack};
 use upload_records::{segment_name, segments_container};
-use upload_texts::{Sealed, SealedPart};
+use upload_texts::{RecordFault, Sealed, SealedPart};
+
+/// The completion that the answer to GET of the file of what is sealed tells of, and `None` where that isn't there. A file that lists
+/// segments is none. Memory where memory ran out; Inconsistent where the answer is another one, or the bytes are no such text; never
+/// Failed.
+pub fn interpret_sealed_get(alloc: Global, reply: &SwiftReply) -> Result<Option<Sealed>, PlanFault>
+    ensures due { Gives result (sealed_due reply.now) }
+    ensures own { result ≢ Err fault.Failed }
+    ensures has { IfOk result (λ found. IfSome found (λ s. has_sealed_text s ≡ true)) }
+{
+    match reply {
+        SwiftReply::Bytes { head, body } if !head.manifest => sealed_in_text(
+            alloc,
+            body.as_slice(),
+        ),
+        SwiftReply::NotFound => Ok(None),
+        _ => Err(PlanFault::Inconsistent),
+    }
+}
+
+/// The sealed completion that the bytes of a file are.
+fn sealed_in_text(alloc: Global, text: &[u8]) -> Result<Option<Sealed>, PlanFault>
+    ensures due { Gives result (known (read_sealed text.now)) }
+    ensures own { result ≢ Err fault.Failed }
+    ensures has { IfOk result (λ found. IfSome found (λ s. has_sealed_text s ≡ true)) }
+{
+    match Sealed::read(alloc, text) {
+        Ok(sealed) => Ok(Some(sealed)),
+        Err(RecordFault::Memory) => Err(PlanFault::Memory),
+        Err(RecordFault::NotARecord) => Err(PlanFault::Inconsistent),
+        Err(RecordFault::Version(_)) => Err(PlanFault::Inconsistent),
+    }
+}
 
 /// The PUT of the object of a sealed completion: a static large object of its parts that aren't empty, or an object without a
 /// byte where all are.

@@ -32,7 +32,7 @@ use Rattle.account_calls.specs.declared.fault.PlanFault.{PlanFault}
 use Rattle.account_calls.specs.declared.fault.PlanFault.TheVariants as fault
 use Rattle.account_calls.specs.Interpret.{Gives, gone_due, known, stored_due}
 use Rattle.account_calls.specs.Puts.{etag_put}
-use Rattle.account_calls.specs.Sealed.{put_object_of, put_record_of, put_sub_of, sealed_listing}
+use Rattle.account_calls.specs.Sealed.{put_object_of, put_record_of, put_sub_of, sealed_by, sealed_due, sealed_listing}
 use Rattle.account_calls.proofs.lemmas.SealStands.{limits, may_stand, object_stored, record_short, segments_are, sub_stands, sub_stored, takes_list, takes_sub}
 use Rattle.account_calls.proofs.lemmas.Etags.{etag_agrees}
 use Rattle.account_calls.proofs.lemmas.ListPut.{by_stays, manifest_stays, manifest_step, put_stays, put_step}
@@ -40,7 +40,7 @@ use Rattle.account_calls.proofs.lemmas.One.{found, stays_so}
 use Rattle.account_calls.proofs.lemmas.Puts.{by_etag, due_of}
 use Rattle.account_calls.proofs.lemmas.Quiet.{IsQuietOf, QuietEffect}
 use Rattle.account_calls.proofs.lemmas.SideNames.{file_name, id_fits}
-use Rattle.recovery.specs.Rolls.{HasGateway, HasObject, HasRecord, HasSubs, IsSealed, KeepsGateway, Leaves, LeavesClear, TellsSealed, sealed_by, sealed_due}
+use Rattle.recovery.specs.Rolls.{HasGateway, HasObject, HasRecord, HasSubs, IsSealed, KeepsGateway, Leaves, LeavesClear, TellsSealed}
 
 -- ---- the GET of what is sealed
 

@@ -1,47 +1,24 @@
--- How a store is settled: the names of what is sealed, the PUT of the gateway's own container, and the whole.
-use Rattle.std.specs.Prelude.{◌≡◌, ℕ, IsTrue, codes, List, None, Ok, Err}
+-- How a store is settled: the PUT of the gateway's own container, and the whole.
+use Rattle.std.specs.Prelude.{◌≡◌, ℕ, IsTrue, List, None, Ok, Err}
 use Rattle.std.specs.FinMap.{get}
-use Rattle.std.proofs.Common.{refl, sym, subst, inl, inr, lit≤, arith}
+use Rattle.std.proofs.Common.{refl, sym, subst, inl, inr, lit≤}
 use Rattle.swift_calls.specs.History.{History, Calls, present}
-use Rattle.swift_calls.specs.Limits.{IsObjectName}
-use Rattle.swift_calls.specs.Step.{IsContainerName}
 use Rattle.swift_calls.specs.declared.account.ReadList.TheVariants.{Nobody}
 use Rattle.swift_calls.specs.declared.calls.SwiftReply.{SwiftReply}
 use Rattle.swift_calls.specs.declared.calls.SwiftRequest.TheVariants.{PutContainer}
-use Rattle.upload_records.specs.Layout.{gateway_name, sealed_name}
+use Rattle.upload_records.specs.Layout.{gateway_name}
 use Rattle.upload_records.specs.Native.{IsSettled}
 use Rattle.upload_records.proofs.lemmas.SideCalls.{gateway_made, gateway_seals, gateway_settled, gateway_there}
 use Rattle.account_calls.specs.declared.fault.PlanFault.{PlanFault}
 use Rattle.account_calls.specs.declared.fault.PlanFault.TheVariants as plan
 use Rattle.account_calls.specs.Calls.{always, Any, Asks}
 use Rattle.account_calls.specs.Purging.{placed_due}
-use Rattle.account_calls.proofs.lemmas.Markers.{folder_is_marker, text_is_marker}
 use Rattle.account_calls.proofs.lemmas.Quiet.{IsQuietOf, asks_left, asks_untold}
 use Rattle.account_calls.proofs.lemmas.Sides.{placed}
 use Rattle.recovery.specs.declared.state.SettleFault.{SettleFault}
 use Rattle.recovery.specs.Rolls.{FinishesSealed, HasGateway, IsCounted, Leaves, OpensGateway}
 use Rattle.recovery.specs.Settling.{settle_fault, IsNamedFault, NamesSealed, Settles, SettlesIt}
 use Rattle.recovery.proofs.SubCalls.{asks_counted}
-
--- ---- the names
-
-own_is_container : IsContainerName gateway_name
-unfolding gateway_name
-own_is_container =
-    let text = folder_is_marker gateway_name (inr (inr refl)) in
-    record { filled = omega arith; within = omega arith; text = text.utf8; no_zero = text.no_zero }
-
-pub gateway_is_container : (name : List ℕ) → name ≡ gateway_name → IsContainerName name
-gateway_is_container name is = subst IsContainerName (sym is) own_is_container
-
-own_is_object : IsObjectName sealed_name
-unfolding sealed_name
-own_is_object =
-    let text = text_is_marker (codes "sealed") refl (omega arith) in
-    (omega arith, record { within = omega arith; utf8 = text.utf8; no_zero = text.no_zero })
-
-pub sealed_is_object : (name : List ℕ) → name ≡ sealed_name → IsObjectName name
-sealed_is_object name is = subst IsObjectName (sym is) own_is_object
 
 -- ---- the PUT of the container
 

@@ -1,5 +1,5 @@
 -- What the calls that settle a store leave of a completion that was sealed, over every observable store.
-use Rattle.std.specs.Prelude.{◌≡◌, ◌⊎◌, ℕ, true, false, IsTrue, List, Option, None, Some, Result, Ok, Err, IfOk}
+use Rattle.std.specs.Prelude.{◌≡◌, ◌⊎◌, ℕ, true, IsTrue, List, Option, None, Some, Result, Ok, Err, IfOk}
 use Rattle.std.specs.FinMap.{get}
 use Rattle.std.specs.Option.{option_and_then, option_map}
 use Rattle.std.specs.Result.{IsErrAnd}
@@ -28,7 +28,8 @@ use Rattle.account_calls.specs.Puts.{Ensures}
 use Rattle.account_calls.specs.declared.fault.PlanFault.{PlanFault}
 use Rattle.account_calls.specs.declared.fault.PlanFault.TheVariants as fault
 use Rattle.account_calls.proofs.lemmas.One.{found, stays_so}
-use Rattle.recovery.specs.Rolls.{FinishesSealed, HoldsOrFinished, HoldsSealed, IsFinished, IsFinishedSince, SaysSealed, sealed_by, sealed_due}
+use Rattle.account_calls.specs.Sealed.{sealed_by, sealed_due}
+use Rattle.recovery.specs.Rolls.{FinishesSealed, HoldsOrFinished, HoldsSealed, IsFinished, IsFinishedSince, SaysSealed}
 
 -- ---- the PUT of the gateway's own container
 

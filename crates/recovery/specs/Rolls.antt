@@ -1,21 +1,16 @@
 -- A completion that is sealed, and the calls that finish it: how far it is, and what each call leaves. Source: Object Storage API
 -- v1, "Static large objects", and this profile.
-use Rattle.std.specs.Prelude.{◌≡◌, ◌⊎◌, ◌≤◌, ◌+◌, ℕ, Bool, true, false, IsTrue, List, Option, None, Some, Result, Ok, Err, IfOk}
+use Rattle.std.specs.Prelude.{◌≡◌, ◌⊎◌, ◌≤◌, ◌+◌, ℕ, IsTrue, Option, Some, Result, Ok, IfOk}
 use Rattle.s3_names.specs.Id.{id_digits}
 use Rattle.swift_calls.specs.Account.{SwiftObject, SwiftAccount, files, find_object}
 use Rattle.swift_calls.specs.History.{History, present}
-use Rattle.swift_calls.specs.declared.calls.SwiftReply.{SwiftReply}
-use Rattle.swift_calls.specs.declared.calls.SwiftReply.TheVariants.{NotFound, Bytes}
 use Rattle.swift_calls.specs.declared.calls.SwiftRequest.{SwiftRequest}
-use Rattle.upload_texts.specs.Sealed.{read_sealed}
 use Rattle.upload_texts.specs.declared.sealed.Sealed.{Sealed}
 use Rattle.upload_records.specs.Consistent.{HasSubManifests, IsThere}
 use Rattle.upload_records.specs.Layout.{uploads_name, segments_name, gateway_name}
 use Rattle.upload_records.specs.Native.{object_of, record_at, seal_of, sealed_object, sealed_record, sealed_segments, sub_manifests_of, IsSettled}
 use Rattle.account_calls.specs.declared.fault.PlanFault.{PlanFault}
-use Rattle.account_calls.specs.declared.fault.PlanFault.TheVariants.{Inconsistent}
 use Rattle.account_calls.specs.Calls.{Met}
-use Rattle.account_calls.specs.Interpret.{known}
 use Rattle.account_calls.specs.Puts.{StandsIn}
 use Rattle.account_calls.specs.Sealed.{put_object_of, put_record_of}
 
@@ -101,18 +96,6 @@ pub record FinishesSealed {T : Type 0} (old new : History) (result : Result T Pl
 pub record TellsSealed (old new : SwiftAccount) (told : Option Sealed) : Type 0 where
   pub same : new ≡ old
   pub is : told ≡ seal_of old
-
--- ---- what an answer comes to
-
-abbrev pub sealed_by : Bool → List ℕ → Result (Option Sealed) PlanFault
-sealed_by true text = Err Inconsistent
-sealed_by false text = known (read_sealed text)
-
--- GET of the file of what is sealed: what its own bytes read as; one that lists segments is none
-abbrev pub sealed_due : SwiftReply → Result (Option Sealed) PlanFault
-sealed_due (Bytes head body) = sealed_by head.manifest body
-sealed_due NotFound = Ok None
-sealed_due _ = Err Inconsistent
 
 -- ---- how many calls
 

@@ -1,53 +1,19 @@
-//! What is read of a completion that is sealed, and its record.
-ghost use Rattle.std.specs.Prelude.{◌≡◌, ◌≢◌, map, Some, true, Err, IfOk, IfSome};
+//! The record of a completion that is sealed.
+ghost use Rattle.std.specs.Prelude.{◌≡◌, map, Some, true, IfOk};
 ghost use Rattle.s3_names.specs.Id.{id_digits};
 ghost use Rattle.swift_calls.specs.Step.{Fit};
 ghost use Rattle.upload_texts.specs.Records.{read_record, record_text};
-ghost use Rattle.upload_texts.specs.Sealed.{has_sealed_text, read_sealed};
+ghost use Rattle.upload_texts.specs.Sealed.{has_sealed_text};
 ghost use Rattle.upload_records.specs.Native.{listed_of, sealed_record};
-ghost use Rattle.account_calls.specs.Interpret.{Gives, known};
 ghost use Rattle.account_calls.specs.Sealed.{put_record_of};
-ghost use Rattle.account_calls.specs.declared.fault.PlanFault.TheVariants as fault;
-ghost use Rattle.recovery.specs.Rolls.{sealed_due};
 
-use account_calls::PlanFault;
 use gate_base::{Bytes, Copying, List, Memory};
 use s3_machine::Listed;
 use s3_names::id_digits;
 use std::alloc::Global;
-use swift_calls::{SwiftReply, SwiftRequest};
+use swift_calls::SwiftRequest;
 use upload_records::uploads_container;
-use upload_texts::{Record, RecordFault, Sealed, SealedPart};
-
-/// The answer to GET of the file of what is sealed, which may be there no more. A file that lists segments is none.
-pub(crate) fn interpret_sealed_get(
-    alloc: Global,
-    reply: &SwiftReply,
-) -> Result<Option<Sealed>, PlanFault>
-    ensures due { Gives result (sealed_due reply.now) }
-    ensures own { result ≢ Err fault.Failed }
-    ensures has { IfOk result (λ found. IfSome found (λ s. has_sealed_text s ≡ true)) }
-{
-    match reply {
-        SwiftReply::Bytes { head, body } if !head.manifest => read_sealed(alloc, body.as_slice()),
-        SwiftReply::NotFound => Ok(None),
-        _ => Err(PlanFault::Inconsistent),
-    }
-}
-
-/// The sealed completion that the bytes of a file are.
-fn read_sealed(alloc: Global, text: &[u8]) -> Result<Option<Sealed>, PlanFault>
-    ensures due { Gives result (known (read_sealed text.now)) }
-    ensures own { result ≢ Err fault.Failed }
-    ensures has { IfOk result (λ found. IfSome found (λ s. has_sealed_text s ≡ true)) }
-{
-    match Sealed::read(alloc, text) {
-        Ok(sealed) => Ok(Some(sealed)),
-        Err(RecordFault::Memory) => Err(PlanFault::Memory),
-        Err(RecordFault::NotARecord) => Err(PlanFault::Inconsistent),
-        Err(RecordFault::Version(_)) => Err(PlanFault::Inconsistent),
-    }
-}
+use upload_texts::{Record, Sealed, SealedPart};
 
 /// The text of the record of a completed upload, with the moment of its completion.
 pub(crate) fn rolled_forward_record_text(alloc: Global, sealed: &Sealed) -> Result<Bytes, Memory>

@@ -9,13 +9,11 @@ ghost use Rattle.account_calls.specs.Puts.{Ensures, Stands, StandsIn};
 ghost use Rattle.account_calls.specs.Sealed.{put_object_of, put_record_of, put_sub_of};
 ghost use Rattle.recovery.specs.Rolls.{FinishesSealed, HasGateway, HasObject, HasRecord, HasSubs, HoldsOrFinished, HoldsSealed, IsCounted, IsFinished, IsSealed, KeepsFile, KeepsGateway, Leaves, LeavesClear, OpensGateway, SaysSealed, TellsSealed};
 
-use crate::sealed::{
-    interpret_sealed_get, rolled_forward_record_request, rolled_forward_record_text,
-};
+use crate::sealed::{rolled_forward_record_request, rolled_forward_record_text};
 use account_calls::{
     PlanFault, Settled, ask, etag_of_put, interpret_container_put, interpret_file_delete,
-    interpret_put_with_etag, object_request, sealed_segments, sub_manifest_count,
-    sub_manifest_request,
+    interpret_put_with_etag, interpret_sealed_get, object_request, sealed_segments,
+    sub_manifest_count, sub_manifest_request,
 };
 use s3_machine::body_etag;
 use slo_manifest::Segment;
@@ -38,7 +36,7 @@ pub(crate) fn settle_unsure_store<W: Swift>(alloc: Global, store: &mut W) -> Res
 }
 
 /// Makes the gateway's own container, which may be there, by PUT of it (Object Storage API v1, "Create container").
-#[tactic(auto, using(crate::proofs::SettleCalls::gateway_is_container))]
+#[tactic(auto, using(account_calls::proofs::lemmas::SealedNames::gateway_is_container))]
 fn make_gateway<W: Swift>(alloc: Global, store: &mut W) -> Result<(), PlanFault>
     ensures asks { Asks (always 1) (W.history store.old) (W.history store.new) Any
         OpensGateway result }
@@ -73,7 +71,7 @@ fn settle_made<W: Swift>(alloc: Global, store: &mut W) -> Result<(), PlanFault>
 
 /// The completion that is sealed, and `None` where none is, by GET of its file (Object Storage API v1, "Get object content and
 /// metadata").
-#[tactic(auto, using(crate::proofs::SettleCalls::gateway_is_container, crate::proofs::SettleCalls::sealed_is_object))]
+#[tactic(auto, using(account_calls::proofs::lemmas::SealedNames::gateway_is_container, account_calls::proofs::lemmas::SealedNames::sealed_is_object))]
 fn get_sealed<W: Swift>(alloc: Global, store: &mut W) -> Result<Option<Sealed>, PlanFault>
     ensures asks { Asks (always 1) (W.history store.old) (W.history store.new) HasGateway
         TellsSealed result }
@@ -277,7 +275,7 @@ fn put_rolled_forward_record<W: Swift>(
 }
 
 /// Deletes what is sealed, whose object and record are there (Object Storage API v1, "Delete object").
-#[tactic(auto, using(crate::proofs::SettleCalls::gateway_is_container, crate::proofs::SettleCalls::sealed_is_object))]
+#[tactic(auto, using(account_calls::proofs::lemmas::SealedNames::gateway_is_container, account_calls::proofs::lemmas::SealedNames::sealed_is_object))]
 fn delete_rolled_forward_seal<W: Swift>(
     alloc: Global,
     store: &mut W,

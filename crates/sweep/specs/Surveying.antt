@@ -1,13 +1,10 @@
 -- What stands on an account is counted, container by container. Source: this profile.
-use Rattle.std.specs.Prelude.{◌≡◌, ◌≤◌, ◌+◌, ◌⊎◌, ℕ, Bool, true, false, not, List, length, sum_by, Option, None, Some, Result, Ok, Err}
+use Rattle.std.specs.Prelude.{◌≡◌, ◌≤◌, ◌+◌, ◌⊎◌, ℕ, Bool, true, false, not, List, length, sum_by, Option, None, Some}
 use Rattle.std.specs.List.{filter}
 use Rattle.std.specs.FinMap.{keys, len}
 use Rattle.gate_base.specs.Maps.{Names}
 use Rattle.s3_names.specs.Bucket.{is_bucket}
 use Rattle.swift_calls.specs.Account.{SwiftAccount, files}
-use Rattle.swift_calls.specs.declared.calls.SwiftReply.{SwiftReply}
-use Rattle.swift_calls.specs.declared.calls.SwiftReply.TheVariants.{Bytes, NotFound}
-use Rattle.upload_texts.specs.Sealed.{read_sealed}
 use Rattle.upload_texts.specs.declared.sealed.Sealed.{Sealed}
 use Rattle.upload_records.specs.Layout.{segments_name, uploads_name}
 use Rattle.upload_records.specs.Native.{seal_of}
@@ -15,7 +12,6 @@ use Rattle.upload_records.specs.Consistent.{IsThere}
 use Rattle.account_calls.specs.declared.fault.PlanFault.{PlanFault}
 use Rattle.account_calls.specs.declared.fault.PlanFault.TheVariants as plan
 use Rattle.account_calls.specs.Answers.{pages}
-use Rattle.account_calls.specs.Interpret.{known}
 use Rattle.list_pages.specs.declared.page.TheConstants.{MOST_NAMES}
 use Rattle.sweep.specs.declared.account.SweepFault.{SweepFault}
 use Rattle.sweep.specs.declared.account.SweepFault.TheVariants as why
@@ -30,16 +26,6 @@ use Rattle.leftovers.specs.Leftovers.{all_if, count_files, is_missing, is_open, 
 use Rattle.sweep.specs.Swept.{is_done}
 
 -- ---- what is sealed
-
-abbrev pub sealed_by : Bool → List ℕ → Result (Option Sealed) PlanFault
-sealed_by true text = Err plan.Inconsistent
-sealed_by false text = known (read_sealed text)
-
--- GET of the file of what is sealed: what its own bytes read as; one that lists segments is none
-abbrev pub sealed_due : SwiftReply → Result (Option Sealed) PlanFault
-sealed_due (Bytes head body) = sealed_by head.manifest body
-sealed_due NotFound = Ok None
-sealed_due _ = Err plan.Inconsistent
 
 -- the completion that is sealed on the account, if one is
 abbrev pub TellsSealed : SwiftAccount → Option Sealed → Type 0

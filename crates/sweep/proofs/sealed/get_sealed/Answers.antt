@@ -14,7 +14,7 @@ pub returns-in_err-reply-clause-asks : goal.returns-in_err-reply-clause-asks
 returns-in_err-reply-clause-asks g c = asked_of_in_vain (sealed_reads c.in_ok-container.ensures c.in_ok-name.ensures) c.in_err-reply.ensures _ c.from_residual-in_err-reply.ensures.1
 
 pub returns-clause-asks : goal.returns-clause-asks
-returns-clause-asks g c = asked_of (sealed_reads c.in_ok-container.ensures c.in_ok-name.ensures) c.in_ok-reply.ensures _ c.sealed_in_reply.ensures.due c.sealed_in_reply.ensures.own
+returns-clause-asks g c = asked_of (sealed_reads c.in_ok-container.ensures c.in_ok-name.ensures) c.in_ok-reply.ensures _ c.interpret_sealed_get.ensures.due c.interpret_sealed_get.ensures.own
 
 pub returns-in_err-container-clause-leaves : goal.returns-in_err-container-clause-leaves
 returns-in_err-container-clause-leaves g c = throughout_none (g.W.Swift.history c.args.store.now)

@@ -3,7 +3,7 @@ use Rattle.upload_texts.specs.Sealed.{ReadsSealed}
 use Rattle.upload_records.proofs.lemmas.SealedTexts.{sealed_has}
 use Rattle.account_calls.specs.Interpret.{known}
 use Rattle.upload_texts.proofs.lemmas.SealedVersions.{none_of_version}
-use Rattle.sweep.proofs.sealed.sealed_in_text.Goals as goal
+use Rattle.account_calls.proofs.sealed.sealed_in_text.Goals as goal
 
 pub returns-in-Ok-clause-has : goal.returns-in-Ok-clause-has
 returns-in-Ok-clause-has c = sealed_has c.args.text.now _ c.in-Ok.ensures
