@@ -1,5 +1,5 @@
 //! The commands `session` and `serve`: the connections of the line, in turn.
-ghost use Rattle.std.specs.Prelude.{◌≡◌, ◌≢◌, ◌-◌, true, false, Some, option_map};
+ghost use Rattle.std.specs.Prelude.{◌-◌, true, false, Some};
 ghost use Rattle.account_calls.specs.Known.{Knows};
 ghost use Rattle.gateway.specs.World.{world, ServesOver};
 ghost use Rattle.http_service.specs.Running.{LineServesAll, LineServesNext};
@@ -9,7 +9,7 @@ ghost use Rattle.gateway_cmd.specs.Session.{NextCursor};
 use account_calls::Known;
 use gate_base::{Clock, Draws, Line};
 use gateway::{Service, serve_connection};
-use http_service::Stopped;
+use http_service::{Stopped, is_connection_limit_reached, one_less};
 use std::alloc::Global;
 use swift_calls::Swift;
 
@@ -33,33 +33,13 @@ pub fn session<N: Line<W>, W: Swift, C: Clock, D: Draws>(
 {
     let mut left = most;
     'connections: loop {
-        if is_session_limit_reached(left) {
+        if is_connection_limit_reached(left) {
             return Stopped::Done;
         }
         match serve_another(alloc, service, line, store, known, clock, draws) {
             Some(stopped) => return stopped,
-            None => left = session_limit_after_one(left),
+            None => left = one_less(left),
         }
-    }
-}
-
-/// Whether none is left of the connections that were asked for.
-fn is_session_limit_reached(left: Option<u64>) -> bool
-    ensures none { result ≡ true → left ≡ Some 0 }
-    ensures some { result ≡ false → left ≢ Some 0 }
-{
-    match left {
-        Some(left) => left == 0,
-        None => false,
-    }
-}
-
-fn session_limit_after_one(left: Option<u64>) -> Option<u64>
-    ensures { result ≡ option_map (λ n. n - 1) left }
-{
-    match left {
-        Some(left) => Some(left.saturating_sub(1)),
-        None => None,
     }
 }
 

@@ -11,6 +11,6 @@ mod service;
 pub use connection::serve_connection;
 pub use ended::Ended;
 pub use received::Received;
-pub use run::{Stopped, serve_all};
+pub use run::{Stopped, is_connection_limit_reached, one_less, serve_all};
 pub use send::send_piece;
 pub use service::Service;

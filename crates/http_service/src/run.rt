@@ -46,8 +46,8 @@ pub fn serve_all<C: Counted, N: Line<C>, S: Service<C, N>>(
     }
 }
 
-/// Whether none is left of the connections that were asked for.
-fn is_connection_limit_reached(left: Option<u64>) -> bool
+/// Whether none is left of the connections that were asked for; `None` asks for any number.
+pub fn is_connection_limit_reached(left: Option<u64>) -> bool
     ensures none { result ≡ true → left ≡ Some 0 }
     ensures some { result ≡ false → left ≢ Some 0 }
 {
@@ -57,7 +57,8 @@ fn is_connection_limit_reached(left: Option<u64>) -> bool
     }
 }
 
-fn one_less(left: Option<u64>) -> Option<u64>
+/// How many of the connections that were asked for are left behind one more, and `None` where any number is served.
+pub fn one_less(left: Option<u64>) -> Option<u64>
     ensures { result ≡ option_map (λ n. n - 1) left }
 {
     match left {

@@ -19,21 +19,21 @@ connections-init g c = record {
   serves = serves_none (λ t. t) (λ told R. ([], none (run_cursor_of (world (g.N.Line.model c.args.line.now) (g.W.Swift.history c.args.store.now) c.args.known.now (g.C.Clock.model c.args.clock.now) (g.D.Draws.model c.args.draws.now)))));
 }
 
-pub returns-then-is_session_limit_reached-clause-line : goal.returns-then-is_session_limit_reached-clause-line
-returns-then-is_session_limit_reached-clause-line g c =
+pub returns-then-is_connection_limit_reached-clause-line : goal.returns-then-is_connection_limit_reached-clause-line
+returns-then-is_connection_limit_reached-clause-line g c =
     let i = c.connections.invariant in
     let old = (g.N.Line.model c.args.line.now).transcript in
     let new = (g.N.Line.model c.connections.line).transcript in
     record {
       next_faults = i.next_faults;
       observable = i.serves.on.line;
-      done = λ observable is. counts_reached c.args.most c.connections.left old new (c.is_session_limit_reached.ensures.none c.if-is_session_limit_reached.true) (i.counts observable);
+      done = λ observable is. counts_reached c.args.most c.connections.left old new (c.is_connection_limit_reached.ensures.none c.if-is_connection_limit_reached.true) (i.counts observable);
       within = λ observable. counts_within c.args.most c.connections.left old new (i.counts observable);
       none_faulty = i.none_faulty;
     }
 
-pub returns-then-is_session_limit_reached-clause-serves : goal.returns-then-is_session_limit_reached-clause-serves
-returns-then-is_session_limit_reached-clause-serves g c = c.connections.invariant.serves
+pub returns-then-is_connection_limit_reached-clause-serves : goal.returns-then-is_connection_limit_reached-clause-serves
+returns-then-is_connection_limit_reached-clause-serves g c = c.connections.invariant.serves
 
 pub returns-in-Some-clause-line : goal.returns-in-Some-clause-line
 returns-in-Some-clause-line g c =
@@ -67,8 +67,8 @@ connections-preserved g c =
       faults = (let a = i.faults in let b = s.faults in omega arith);
       none_faulty = none_faulty_next (g.N.Line.model c.args.line.now) (g.N.Line.model c.connections.line) (g.N.Line.model c.serve_another.new.line) i.serves.on.line i.faults i.none_faulty s;
       counts = λ observable.
-          subst (λ left. Counts c.args.most left (g.N.Line.model c.args.line.now).transcript.begun (g.N.Line.model c.serve_another.new.line).transcript.begun) (sym c.session_limit_after_one-left.ensures)
-          (counts_next c.args.most c.connections.left _ (g.N.Line.model c.connections.line).transcript.begun _ (c.is_session_limit_reached.ensures.some c.if-is_session_limit_reached.false) (i.counts observable) (s.begun (i.serves.on.line observable)));
+          subst (λ left. Counts c.args.most left (g.N.Line.model c.args.line.now).transcript.begun (g.N.Line.model c.serve_another.new.line).transcript.begun) (sym c.one_less-left.ensures)
+          (counts_next c.args.most c.connections.left _ (g.N.Line.model c.connections.line).transcript.begun _ (c.is_connection_limit_reached.ensures.some c.if-is_connection_limit_reached.false) (i.counts observable) (s.begun (i.serves.on.line observable)));
       serves = serves_trans {old = begin} {middle = present} {new = next} i.serves c.in-None.ensures.serves (λ told all kept traces one. run_traces_more all c.args.service.now begin present next kept traces one);
     }
 
