@@ -1,3 +1,4 @@
+pub mod Bodiless
 pub mod Calendars
 pub mod Handling
 pub mod Lines

@@ -32,7 +32,7 @@ use Rattle.gateway.specs.Exchange.{AsksBytes, IsFault, unsettled, answered, Oper
 use Rattle.account_calls.proofs.lemmas.Told.{told_as}
 use Rattle.planner.specs.declared.reading.Reading.{Reading}
 use Rattle.planner.specs.declared.reading.Reading.TheVariants.{Whole, Pieces}
-use Rattle.planner.specs.Reading.{AnsweredOrFound, Finds, LeavesBytes, ReadsBytes}
+use Rattle.planner.specs.Reading.{AnsweredOrFound, Finds, GivesNoByte, HasNoByte, LeavesBytes, ReadsBytes}
 use Rattle.planner.specs.declared.reading.Found.{Found}
 use Rattle.gateway.specs.Reading.{Readied, Reads, PerformsOrFinds, OperatedOrReads, IsReady}
 use Rattle.gateway.proofs.lemmas.Map.{settled_by_agree}
@@ -108,14 +108,15 @@ pub settled_now : {old middle : History} {was : Known} → Readied old middle wa
 settled_now readied known observable = let before = readied.on.told observable in readied.settled before (known before)
 
 pub operated_by : {settings : Settings} {op : Op} {label : Label} {old middle new : History} {was now : Known} {reply : Reply} → Readied old middle was
-    → Answered (most_calls op (present middle)) middle new settings op label now reply → Operated settings op label old new was now reply
-operated_by {settings = settings} {op = op} {label = label} {old = old} {middle = middle} {new = new} {now = now} {reply = reply} readied given = record {
+    → Answered (most_calls op (present middle)) middle new settings op label now reply → GivesNoByte reply → Operated settings op label old new was now reply
+operated_by {settings = settings} {op = op} {label = label} {old = old} {middle = middle} {new = new} {now = now} {reply = reply} readied given bodiless = record {
   on = goes_trans readied.on given.grows.on;
   showable = given.showable;
   caused = record {
     unavailable = λ is. rose_later old.faults middle.faults new.faults readied.on.faults (given.unavailable is);
     stops = λ is. subst (λ n. IsWithinShown (most_refused op reply) n new.called) (readied.needs_none is) given.refused;
     unsure = λ is. inr (given.unsure is);
+    bodiless = inl bodiless;
   };
   effect = λ met.
       let by = readied.by met in
@@ -146,6 +147,11 @@ fault_shown Failed = tt
 fault_shown Memory = tt
 fault_shown (Inconsistent container name) = tt
 
+fault_bodiless : (fault : SettleFault) → GivesNoByte (fault_reply fault)
+fault_bodiless Failed = tt
+fault_bodiless Memory = tt
+fault_bodiless (Inconsistent container name) = tt
+
 fault_known : (fault : SettleFault) → IsFault (fault_reply fault)
 fault_known Failed = inl refl
 fault_known Memory = inr (inr refl)
@@ -171,6 +177,7 @@ not_settled {op = op} {label = label} {old = old} {new = new} fault settles = re
     unavailable = λ is. fault_cause fault old.faults new.faults settles.asks.cause is;
     stops = λ is. absurd (let no : known.Unsure ≡ known.Settled = is in cc);
     unsure = λ is. inl (refl, fault_known fault);
+    bodiless = inl (fault_bodiless fault);
   };
   effect = λ met.
       let keeps = fault_keeps fault new old.called new.called (settles.asks.effect (met_any met)) in
@@ -204,9 +211,9 @@ reads_begun {middle = middle} readied finds = record {
 }
 
 pub operated_or_reads : (settings : Settings) (op : Op) (label : Label) (old middle new : History) (was now : Known) (reading : Reading) → Readied old middle was → PerformsOrFinds middle new settings op label now reading
-    → OperatedOrReads settings op label old new was now reading
-operated_or_reads settings op label old middle new was now (Whole reply) readied told = operated_by readied told
-operated_or_reads settings op label old middle new was now (Pieces found) readied (is, finds) = (is, reads_begun readied finds)
+    → HasNoByte reading → OperatedOrReads settings op label old new was now reading
+operated_or_reads settings op label old middle new was now (Whole reply) readied told bodiless = operated_by readied told bodiless
+operated_or_reads settings op label old middle new was now (Pieces found) readied (is, finds) bodiless = (is, reads_begun readied finds)
 
 -- what is to be sent can be
 pub ready_of : (settings : Settings) (op : Op) (label : Label) (old new : History) (was now : Known) (reading : Reading) → Knows was old → OperatedOrReads settings op label old new was now reading → IsReady new reading

@@ -117,7 +117,7 @@ module _ (settings : Settings) (h : History) (was : Known) (request : Request) (
 
 -- the word that memory ran out is one that may be said to an operation, whatever is known of the store
 out_of_memory_caused : (h : History) (was : Known) (op : Op) → IsCaused (store_cursor h was) (store_cursor h was) op answer.Memory
-out_of_memory_caused h was op = record { unavailable = λ is. absurd (let no : answer.Memory ≡ answer.Refused ServiceUnavailable = is in cc); stops = λ is. tt; unsure = λ is. inl (is, inr (inr refl)) }
+out_of_memory_caused h was op = record { unavailable = λ is. absurd (let no : answer.Memory ≡ answer.Refused ServiceUnavailable = is in cc); stops = λ is. tt; unsure = λ is. inl (is, inr (inr refl)); bodiless = inl tt }
 
 -- before the first call the state is the old one, if that is asked for
 old_if_none : (t : Bool) (h : History) (p : ℕ) → OldIf t h p p

@@ -33,7 +33,7 @@ use Rattle.account_calls.specs.Known.{IsKnown}
 use Rattle.account_calls.specs.Told.{CountsOne}
 use Rattle.account_calls.proofs.lemmas.Idle.{goes_trans}
 use Rattle.planner.specs.declared.reading.Found.{Found}
-use Rattle.planner.specs.Reading.{found_reply, IsReadBy, HasFound, TellsPiece, gives_bytes}
+use Rattle.planner.specs.Reading.{found_reply, IsReadBy, HasFound, ReadsBytes, TellsPiece, gives_bytes}
 use Rattle.s3_requests.specs.declared.meant.Meant.{Meant}
 use Rattle.s3_requests.specs.declared.meant.Meant.TheVariants as meant
 use Rattle.gateway.specs.declared.ended.Ended.{Ended}
@@ -141,10 +141,14 @@ pub record RepliesRead (R : ReplyRelation) (old new : StoreCursor) (early : ℕ)
 beside_read : (op : Op) (found : Found) (label : Label) (h : History) (p q : ℕ) (reply : Reply) → IsReadBy op found → SaysBeside (beside_of op) label h p q reply
 beside_read op found label h p q reply reads = subst (λ o. SaysBeside (beside_of o) label h p q reply) (sym reads.2) tt
 
--- a reply behind which the store is known to be settled has its cause
-caused_by : (old new : StoreCursor) (op : Op) (reply : Reply) → new.known ≡ known.Settled → IsWithinShown (most_refused op reply) old.number new.number
+-- it reads the object that was found
+reads_bytes : (op : Op) (found : Found) → IsReadBy op found → ReadsBytes op
+reads_bytes op found (range, conditions, is) = (found.bucket, found.key, range, conditions, is)
+
+-- a reply to a read behind which the store is known to be settled has its cause
+caused_by : (old new : StoreCursor) (op : Op) (reply : Reply) → ReadsBytes op → new.known ≡ known.Settled → IsWithinShown (most_refused op reply) old.number new.number
     → (reply ≡ answer.Refused ServiceUnavailable → Rose old.faults new.faults) → IsCaused old new op reply
-caused_by old new op reply settled shown rose = record { unavailable = rose; stops = λ is. shown; unsure = λ is. absurd (let no : known.Settled ≡ known.Unsure = sym settled ∙ is in cc) }
+caused_by old new op reply reads settled shown rose = record { unavailable = rose; stops = λ is. shown; unsure = λ is. absurd (let no : known.Settled ≡ known.Unsure = sym settled ∙ is in cc); bodiless = inr reads }
 
 -- a fault is no refusal
 fault_unshown : (op : Op) (old new : History) (f : PlanFault) → IsWithinShown (most_refused op (reply_of (Err f))) old.called new.called
@@ -195,12 +199,12 @@ module _ {settings : Settings} {op : Op} {label : Label} {found : Found} {old no
         replies = performed op means
             (answered so.settled (quiet_own so.quiet (subst (λ b. S3Step settings (s3_state (now.account_at reads.middle.called)) op label (found_reply found b) (s3_state (now.account_at reads.middle.called))) (sym whole) so.body.step))
             (beside_read op found label now reads.middle.called now.called (found_reply found (done ++ left)) reads.reads) so.bound tt)
-            (caused_by (store_cursor old was) (store_cursor now known.Settled) op (found_reply found (done ++ left)) refl tt (λ e. cc)) settles;
+            (caused_by (store_cursor old was) (store_cursor now known.Settled) op (found_reply found (done ++ left)) (reads_bytes op found reads.reads) refl tt (λ e. cc)) settles;
         failing = λ reply is.
             let same : answer.Memory ≡ reply = cc in
             subst (λ r. Replies settings now (store_cursor old was) (span_to now.called) (store_cursor now known.Settled) request label r) same
             (performed op means (answered so.settled (quiet_memory so.quiet so.body.step) (beside_read op found label now reads.middle.called now.called answer.Memory reads.reads) so.bound tt)
-            (caused_by (store_cursor old was) (store_cursor now known.Settled) op answer.Memory refl tt (λ e. cc)) settles);
+            (caused_by (store_cursor old was) (store_cursor now known.Settled) op answer.Memory (reads_bytes op found reads.reads) refl tt (λ e. cc)) settles);
       }
   read_replies false most met =
       let told = reads.told.on.ordered in
@@ -212,8 +216,8 @@ module _ {settings : Settings} {op : Op} {label : Label} {found : Found} {old no
         span = any_span_to now.called;
         is_span = record { from = refl; settles = omega arith; first = omega arith; last = omega (arith, since, told); to = refl; asked = asks_so; faults = faults };
         soon = omega (arith, since, soon);
-        replies = performed_any op means (caused_by (store_cursor old was) (store_cursor now known.Settled) op (found_reply found (done ++ left)) refl tt (λ e. cc));
-        failing = λ reply is. performed_any op means (caused_by (store_cursor old was) (store_cursor now known.Settled) op reply refl
+        replies = performed_any op means (caused_by (store_cursor old was) (store_cursor now known.Settled) op (found_reply found (done ++ left)) (reads_bytes op found reads.reads) refl tt (λ e. cc));
+        failing = λ reply is. performed_any op means (caused_by (store_cursor old was) (store_cursor now known.Settled) op reply (reads_bytes op found reads.reads) refl
             (let same : answer.Memory ≡ reply = cc in subst (λ r. IsWithinShown (most_refused op r) old.called now.called) same tt) (λ e. (let same : answer.Memory ≡ reply = cc in absurd (let no : answer.Memory ≡ answer.Refused ServiceUnavailable = same ∙ e in cc))));
       }
 
@@ -242,12 +246,12 @@ module _ {settings : Settings} {op : Op} {label : Label} {found : Found} {old no
             replies = performed op means
                 (answered so.settled (quiet_own so.quiet (subst (λ b. S3Step settings (s3_state (new.account_at reads.middle.called)) op label (found_reply found b) (s3_state (new.account_at reads.middle.called))) (sym whole) so.body.step))
                 (beside_read op found label new reads.middle.called new.called (found_reply found (done ++ left)) reads.reads) so.bound tt)
-                (caused_by (store_cursor old was) (store_cursor new known.Settled) op (found_reply found (done ++ left)) refl tt (λ e. cc)) settles;
+                (caused_by (store_cursor old was) (store_cursor new known.Settled) op (found_reply found (done ++ left)) (reads_bytes op found reads.reads) refl tt (λ e. cc)) settles;
             failing = λ reply is.
                 let same : reply_of (Err f) ≡ reply = cc in
                 subst (λ r. Replies settings new (store_cursor old was) (span_to new.called) (store_cursor new known.Settled) request label r) same
                 (performed op means (answered so.settled (failed_answers reads asks met other most) (beside_read op found label new reads.middle.called new.called (reply_of (Err f)) reads.reads) so.bound (fault_unshown op reads.middle new f))
-                (caused_by (store_cursor old was) (store_cursor new known.Settled) op (reply_of (Err f)) refl (fault_unshown op old new f) (fault_rose T f old.faults now.faults new.faults before asks.cause)) settles);
+                (caused_by (store_cursor old was) (store_cursor new known.Settled) op (reply_of (Err f)) (reads_bytes op found reads.reads) refl (fault_unshown op old new f) (fault_rose T f old.faults now.faults new.faults before asks.cause)) settles);
           })
     ]
     failed_replies false most met =
@@ -262,8 +266,8 @@ module _ {settings : Settings} {op : Op} {label : Label} {found : Found} {old no
           span = any_span_to new.called;
           is_span = record { from = refl; settles = omega arith; first = omega arith; last = omega (arith, since, told, then); to = refl; asked = asks_so; faults = faults };
           soon = omega (arith, since, soon);
-          replies = performed_any op means (caused_by (store_cursor old was) (store_cursor new known.Settled) op (found_reply found (done ++ left)) refl tt (λ e. cc));
-          failing = λ reply is. performed_any op means (caused_by (store_cursor old was) (store_cursor new known.Settled) op reply refl
+          replies = performed_any op means (caused_by (store_cursor old was) (store_cursor new known.Settled) op (found_reply found (done ++ left)) (reads_bytes op found reads.reads) refl tt (λ e. cc));
+          failing = λ reply is. performed_any op means (caused_by (store_cursor old was) (store_cursor new known.Settled) op reply (reads_bytes op found reads.reads) refl
               (let same : reply_of (Err f) ≡ reply = cc in subst (λ r. IsWithinShown (most_refused op r) old.called new.called) same (fault_unshown op old new f))
               (λ e. (let same : reply_of (Err f) ≡ reply = cc in fault_rose T f old.faults now.faults new.faults before asks.cause (same ∙ e))));
         }

@@ -24,6 +24,7 @@ use Rattle.account_calls.specs.Calls.{GoesOn, Met, amount}
 use Rattle.account_calls.specs.Known.{IsKnown}
 use Rattle.account_calls.specs.Refusals.{IsWithinShown, most_refused}
 use Rattle.account_calls.specs.Stutters.{Stutters, LastFailed}
+use Rattle.planner.specs.Reading.{GivesNoByte, ReadsBytes}
 use Rattle.http_wire.specs.FirstMessage.{is_head}
 use Rattle.http_wire.specs.Print.{memory_reply}
 use Rattle.gateway.specs.declared.ended.Ended.{Ended}
@@ -108,12 +109,14 @@ abbrev pub IsFault : Reply → Type 0
 IsFault reply = (reply ≡ Refused ServiceUnavailable) ⊎ ((reply ≡ Refused InconsistentStore) ⊎ (reply ≡ Memory))
 
 -- the causes of a reply to an operation, over every store: ServiceUnavailable comes only where the store's own count of faults
--- rose; a refusal stops at the call that shows it, where the store was known to be settled; and the store isn't known to be settled afterwards only where it wasn't before and the reply is one of a fault, or
--- where the operation leaves it so
+-- rose; a refusal stops at the call that shows it, where the store was known to be settled; the store isn't known to be settled
+-- afterwards only where it wasn't before and the reply is one of a fault, or where the operation leaves it so; and the reply gives a
+-- byte of an object only where the operation reads one
 pub record IsCaused (old new : StoreCursor) (op : Op) (reply : Reply) : Type 0 where
   pub unavailable : reply ≡ Refused ServiceUnavailable → Rose old.faults new.faults
   pub stops : old.known ≡ known.Settled → IsWithinShown (most_refused op reply) old.number new.number
   pub unsure : new.known ≡ known.Unsure → ((old.known ≡ known.Unsure) × IsFault reply) ⊎ (may_leave_unsure op reply ≡ true)
+  pub bodiless : GivesNoByte reply ⊎ ReadsBytes op
 
 -- what is said of the reply to an operation, over an observable store: the store could not be settled; or it was, and the
 -- operation is answered, with no more calls than it may make, and of a refusal no more than show it

@@ -8,7 +8,7 @@ ghost use Rattle.account_calls.specs.Known.{Knows};
 ghost use Rattle.account_calls.specs.Plan.{reply_of};
 ghost use Rattle.recovery.specs.Settling.{Settles, settle_fault};
 ghost use Rattle.s3_requests.specs.Proper.{IsProperMeant};
-ghost use Rattle.planner.specs.Reading.{LeavesBytes, ReadsBytes};
+ghost use Rattle.planner.specs.Reading.{HasNoByte, LeavesBytes, ReadsBytes};
 ghost use Rattle.gateway.specs.Exchange.{AsksBytes};
 ghost use Rattle.gateway.specs.Reading.{PerformsOrFinds, IsReady, OperatedOrReads, RepliedOrReads};
 
@@ -110,6 +110,7 @@ fn perform_on_settled_store<W: Swift>(
     ensures performs { PerformsOrFinds (W.history store.old) (W.history store.new) settings.now op
         label.now result.known result.reading }
     ensures leaves { ReadsBytes op → LeavesBytes result.reading }
+    ensures bodiless { HasNoByte result.reading }
 {
     let mut state = Settled::hold(store, settings);
     perform(alloc, &mut state, op, label)
@@ -123,6 +124,7 @@ fn perform<W: Swift>(alloc: Global, state: &mut Settled<'_, W>, op: Op, label: &
         (W.history state.new.store.now) state.old.settings.now op label.now result.known
         result.reading }
     ensures leaves { ReadsBytes op → LeavesBytes result.reading }
+    ensures bodiless { HasNoByte result.reading }
 {
     match plans_of(&op) {
         PlansOf::One => Performed {

@@ -12,6 +12,7 @@ pub mod Finishing
 pub mod FoundCompletion
 pub mod PartsListed
 pub mod PartsStand
+pub mod ReplyKinds
 pub mod SealCalls
 pub mod SealedTexts
 pub mod Searched

@@ -1,3 +1,4 @@
 pub mod Completing
 pub mod Listing
 pub mod Plans
+pub mod Replies

@@ -15,6 +15,7 @@ ghost use Rattle.account_calls.specs.Shows.{alone};
 ghost use Rattle.account_calls.specs.Plan.{Plans};
 ghost use Rattle.upload_calls.specs.Found.{IsOpenUpload};
 ghost use Rattle.plan_uploads.specs.Plans.{LeavesBeside, gone_behind};
+ghost use Rattle.plan_uploads.specs.Replies.{AnswersUpload};
 
 use account_calls::{PlanFault, Settled, purge};
 use gate_base::Bytes;
@@ -47,6 +48,7 @@ pub(crate) fn abort_upload<W: Swift>(
     ensures beside { (label : Label) → LeavesBeside (clears bucket.now text.now) label
         (W.history state.old.store.now) (W.history state.new.store.now) (Given Any) result }
     ensures stops { Stops alone 0 (W.history state.old.store.now) (W.history state.new.store.now) result }
+    ensures kind { AnswersUpload result }
 {
     match find_upload(alloc, state, bucket, key, text)? {
         Found::NoBucket => Ok(Reply::Refused(Code::NoSuchBucket)),
@@ -76,6 +78,7 @@ fn abort_open<W: Swift>(
         → LeavesBeside (clears bucket.now text) label (W.history state.old.store.now)
         (W.history state.new.store.now) (GivenOf (IsOpenUpload bucket.now key text id)) result }
     ensures unrefused { Unrefused result }
+    ensures kind { AnswersUpload result }
 {
     let folder = segments_container(alloc, bucket.as_slice())?;
     let prefix = segments_prefix(alloc, id)?;
@@ -106,6 +109,7 @@ fn plan_abort_and_purge_upload<W: Swift>(
         → LeavesBeside (clears bucket.now text) label (W.history state.old.store.now)
         (W.history state.new.store.now) (GivenOf (IsOpenUpload bucket.now key text id)) result }
     ensures unrefused { Unrefused result }
+    ensures kind { AnswersUpload result }
 {
     drop_record(alloc, state, bucket, id)?;
     end_abort_upload_plan(purge(alloc, state, bucket, folder, prefix))

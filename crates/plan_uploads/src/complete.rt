@@ -18,6 +18,7 @@ ghost use Rattle.account_calls.specs.Shows.{alone};
 ghost use Rattle.account_calls.specs.Plan.{Plans};
 ghost use Rattle.account_calls.specs.Puts.{EnsuresIfDone};
 ghost use Rattle.plan_uploads.specs.Completing.{Ascend, BreaksOff, HasParts, IsOpenAs, MayComplete, ShownByParts, StandsAs, StandsCompleted, ToldOrStands, answered_by, by_number, completion_of, end_in, known_in, listed_parts};
+ghost use Rattle.plan_uploads.specs.Replies.{AnswersUpload};
 
 use crate::chosen::{chosen_parts, has_small_chosen_part};
 use crate::completed::{Opened, ToComplete, find_upload_to_complete};
@@ -70,6 +71,7 @@ pub(crate) fn complete_upload<W: Swift>(
         (ToldOrStands (known_in result) bucket.now key.now list.now label.now.moment
         (W.history state.old.store.now) (W.history state.new.store.now)) (end_in result) }
     ensures stops { Stops alone 0 (W.history state.old.store.now) (W.history state.new.store.now) (end_in result) }
+    ensures kind { AnswersUpload (end_in result) }
 {
     match find_upload_to_complete(alloc, state, bucket, key, text, list.as_slice())? {
         ToComplete::NoBucket => Ok(end_complete_upload_refused(Code::NoSuchBucket)),
@@ -131,6 +133,7 @@ fn complete_open<W: Swift>(
         (StandsCompleted (known_in result) bucket.now key.now list.now label.now.moment)
         (end_in result) }
     ensures stops { Stops alone 2 (W.history state.old.store.now) (W.history state.new.store.now) (end_in result) }
+    ensures kind { AnswersUpload (end_in result) }
 {
     if !rises(list.as_slice()) {
         return Ok(end_complete_upload_refused(Code::InvalidPartOrder));
@@ -175,6 +178,7 @@ fn complete_by<W: Swift>(
         (StandsCompleted (known_in result) bucket.now key.now list.now label.now.moment)
         (end_in result) }
     ensures shown { ShownByParts (end_in result) }
+    ensures kind { AnswersUpload (end_in result) }
 {
     let Some(chosen) = chosen_parts(alloc, parts, list.as_slice())? else {
         return Ok(end_complete_upload_refused(Code::InvalidPart));
@@ -211,6 +215,7 @@ fn complete_chosen<W: Swift>(
         (StandsCompleted (known_in result) bucket.now key.now list.now label.now.moment)
         (end_in result) }
     ensures shown { ShownByParts (end_in result) }
+    ensures kind { AnswersUpload (end_in result) }
 {
     if has_small_chosen_part(state.settings().least_part, chosen.as_slice()) {
         return Ok(end_complete_upload_refused(Code::EntityTooSmall));
@@ -277,6 +282,7 @@ fn complete_sealed<W: Swift>(
     ensures stands { EnsuresIfDone (W.history state.new.store.now)
         (StandsAs (known_in result) sealed.now) (end_in result) }
     ensures unrefused { Unrefused (end_in result) }
+    ensures kind { AnswersUpload (end_in result) }
 {
     if !sealed.has_text() {
         return Err(PlanFault::Inconsistent);

@@ -15,6 +15,7 @@ ghost use Rattle.account_calls.specs.Shows.{alone};
 ghost use Rattle.account_calls.specs.Plan.{ended, Plans};
 ghost use Rattle.account_calls.specs.Puts.{EnsuresIfDone};
 ghost use Rattle.plan_uploads.specs.Plans.{LeavesBeside, MayStart, StandsStarted};
+ghost use Rattle.plan_uploads.specs.Replies.{AnswersUpload};
 
 use account_calls::{PlanFault, Settled, head_bucket};
 use gate_base::{Bytes, Copying};
@@ -52,6 +53,7 @@ pub(crate) fn create_upload<W: Swift>(
     ensures stands { EnsuresIfDone (W.history state.new.store.now)
         (StandsStarted bucket key content_type meta label.now.moment) result }
     ensures stops { Stops alone 0 (W.history state.old.store.now) (W.history state.new.store.now) result }
+    ensures kind { AnswersUpload result }
 {
     let Some(list) = head_bucket(state, &bucket)? else {
         return Ok(Reply::Refused(Code::NoSuchBucket));
@@ -96,6 +98,7 @@ fn plan_create_upload_within<W: Swift>(
     ensures stands { EnsuresIfDone (W.history state.new.store.now)
         (StandsStarted bucket key content_type meta label.now.moment) result }
     ensures stops { Stops alone 1 (W.history state.old.store.now) (W.history state.new.store.now) result }
+    ensures kind { AnswersUpload result }
 {
     if is_other_acl(acl, list) {
         return Ok(Reply::Refused(Code::NotImplemented));
@@ -142,6 +145,7 @@ fn start<W: Swift>(
     ensures stands { EnsuresIfDone (W.history state.new.store.now)
         (StandsStarted bucket key content_type meta label.now.moment) result }
     ensures unrefused { Unrefused result }
+    ensures kind { AnswersUpload result }
 {
     let name = key.copy()?;
     end_create_upload_plan(

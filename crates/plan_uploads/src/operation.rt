@@ -11,6 +11,7 @@ ghost use Rattle.account_calls.specs.Plan.{reply_of, Plans, Answered};
 ghost use Rattle.plan_uploads.specs.Completing.{end_in, known_after_completion, known_in, unfinished_in};
 ghost use Rattle.account_calls.specs.Puts.{EnsuresIfDone, IfDone};
 ghost use Rattle.plan_uploads.specs.Plans.{LeavesBeside, UnsureBy, UploadStands};
+ghost use Rattle.plan_uploads.specs.Replies.{AnswersUpload, is_upload_reply};
 
 use crate::abort::abort_upload;
 use crate::complete::{Completing, complete_upload};
@@ -55,6 +56,9 @@ pub fn answer<W: Swift>(alloc: Global, state: &mut Settled<'_, W>, op: Op, label
     // It is unsure for a cause, over every store, whether a completion is sealed.
     ensures unsure { UnsureBy (W.history state.old.store.now) (W.history state.new.store.now) result }
 
+    // Over every store the reply is one to an operation on uploads, and so none that gives bytes of an object.
+    ensures kind { is_upload_reply result.reply ≡ true }
+
     // What was put stands, over every observable store, consistent or not.
     ensures stands { IsTrue (W.history state.new.store.now).observable
         → IfDone result.reply (UploadStands op label.now result.known (W.history state.old.store.now)
@@ -82,6 +86,7 @@ fn answer_upload_operation<W: Swift>(
     ensures stands { IsTrue (W.history state.new.store.now).observable
         → IfDone result.reply (UploadStands op.old label.now result.known (W.history state.old.store.now)
         (W.history state.new.store.now) (present (W.history state.new.store.now))) }
+    ensures kind { is_upload_reply result.reply ≡ true }
 {
     match op {
         Op::CompleteUpload {
@@ -148,6 +153,7 @@ fn plan<W: Swift>(
         (UploadStands op.old label.now known.Settled (W.history state.old.store.now)
         (W.history state.new.store.now)) result }
     ensures stops { Stops (shows op.old) 0 (W.history state.old.store.now) (W.history state.new.store.now) result }
+    ensures kind { AnswersUpload result }
 {
     match op {
         Op::CreateUpload {
@@ -188,6 +194,7 @@ fn plan_of_open<W: Swift>(
         (UploadStands op.old label.now known.Settled (W.history state.old.store.now)
         (W.history state.new.store.now)) result }
     ensures stops { Stops (shows op.old) 0 (W.history state.old.store.now) (W.history state.new.store.now) result }
+    ensures kind { AnswersUpload result }
 {
     match op {
         Op::UploadPart {
@@ -229,6 +236,7 @@ fn plan_listing<W: Swift>(
         (UploadStands op.old label.now known.Settled (W.history state.old.store.now)
         (W.history state.new.store.now)) result }
     ensures stops { Stops (shows op.old) 0 (W.history state.old.store.now) (W.history state.new.store.now) result }
+    ensures kind { AnswersUpload result }
 {
     match op {
         Op::ListUploads {

@@ -17,6 +17,7 @@ ghost use Rattle.account_calls.specs.Puts.{EnsuresIfDone, StandsIn};
 ghost use Rattle.upload_calls.specs.Found.{IsOpenUpload};
 ghost use Rattle.upload_calls.specs.Interpret.{put_part_of};
 ghost use Rattle.upload_calls.specs.Records.{StandsPart};
+ghost use Rattle.plan_uploads.specs.Replies.{AnswersUpload};
 
 use account_calls::{PlanFault, Settled};
 use gate_base::Bytes;
@@ -49,6 +50,7 @@ pub(crate) fn upload_part<W: Swift>(
     ensures stands { EnsuresIfDone (W.history state.new.store.now)
         (StandsPart bucket.now text.now number body label.now.moment) result }
     ensures stops { Stops alone 0 (W.history state.old.store.now) (W.history state.new.store.now) result }
+    ensures kind { AnswersUpload result }
 {
     match find_upload(alloc, state, bucket, key, text)? {
         Found::NoBucket => Ok(Reply::Refused(Code::NoSuchBucket)),
@@ -79,6 +81,7 @@ fn part_into<W: Swift>(
     ensures stands { EnsuresIfDone (W.history state.new.store.now)
         (λ tree. StandsIn tree (put_part_of bucket.now id number body label.now.moment)) result }
     ensures unrefused { Unrefused result }
+    ensures kind { AnswersUpload result }
 {
     let etag = body.etag();
     plan_upload_part_bytes(
@@ -117,6 +120,7 @@ fn plan_upload_part_bytes<W: Swift>(
     ensures stands { EnsuresIfDone (W.history state.new.store.now)
         (λ tree. StandsIn tree (put_part_of bucket.now id number body label.now.moment)) result }
     ensures unrefused { Unrefused result }
+    ensures kind { AnswersUpload result }
 {
     let text = Bytes::from_slice(alloc, etag)?;
     end_upload_part_plan(

@@ -12,6 +12,7 @@ ghost use Rattle.account_calls.specs.Refusals.{Unrefused};
 ghost use Rattle.account_calls.specs.Plan.{Plans};
 ghost use Rattle.account_calls.specs.Puts.{Ensures, EnsuresIfDone};
 ghost use Rattle.plan_uploads.specs.Completing.{BreaksOff, CompletesBy, EndsQuietly, MaySeal, Seals, StandsAs, end_complete_upload_sealed, known_after_completion, most_sealed_text, put_sealed_text};
+ghost use Rattle.plan_uploads.specs.Replies.{AnswersUpload};
 
 use crate::complete::Completing;
 use account_calls::{PlanFault, Settled, interpret_put_with_etag};
@@ -93,6 +94,7 @@ pub(crate) fn seal_and_finish<W: Swift>(
         → IfOk result.end (λ reply. EndsQuietly (W.history state.new.store.now)
         (W.history state.old.store.now).called (W.history state.new.store.now).called) }
     ensures unrefused { Unrefused result.end }
+    ensures kind { AnswersUpload result.end }
 {
     match seal(alloc, state, sealed) {
         Ok(()) => end_complete_upload_sealed(roll_forward_held(alloc, state, sealed), reply),

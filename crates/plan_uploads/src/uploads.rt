@@ -17,6 +17,7 @@ ghost use Rattle.account_calls.specs.Shows.{alone};
 ghost use Rattle.account_calls.specs.Plan.{Plans};
 ghost use Rattle.upload_calls.specs.Found.{IsOpenUpload};
 ghost use Rattle.plan_uploads.specs.Plans.{parts_told, uploads_told};
+ghost use Rattle.plan_uploads.specs.Replies.{AnswersUpload};
 
 use crate::listed_uploads::list_uploads;
 use account_calls::{PlanFault, Settled, head_bucket};
@@ -47,6 +48,7 @@ pub(crate) fn plan_list_parts<W: Swift>(
         (W.history state.old.store.now) (W.history state.new.store.now) state.old.settings.now
         (Given Any) (ListParts bucket key text.now marker max) label known.Settled result }
     ensures stops { Stops alone 0 (W.history state.old.store.now) (W.history state.new.store.now) result }
+    ensures kind { AnswersUpload result }
 {
     match find_upload(alloc, state, &bucket, &key, text)? {
         Found::NoBucket => Ok(Reply::Refused(Code::NoSuchBucket)),
@@ -75,6 +77,7 @@ fn plan_list_parts_within<W: Swift>(
         (GivenOf (IsOpenUpload bucket key text id)) (ListParts bucket key text marker max) label
         known.Settled result }
     ensures unrefused { Unrefused result }
+    ensures kind { AnswersUpload result }
 {
     let listed = list_parts(alloc, state, &bucket, id, marker, max)?;
     Ok(end_list_parts_plan(bucket, key, id, marker, max, listed))
@@ -126,6 +129,7 @@ pub(crate) fn plan_list_uploads<W: Swift>(
         (W.history state.new.store.now) state.old.settings.now (Given Any)
         (ListUploads bucket prefix key_marker id_marker max url) label known.Settled result }
     ensures stops { Stops alone 0 (W.history state.old.store.now) (W.history state.new.store.now) result }
+    ensures kind { AnswersUpload result }
 {
     let Some(_) = head_bucket(state, &bucket)? else {
         return Ok(Reply::Refused(Code::NoSuchBucket));
@@ -157,6 +161,7 @@ fn plan_list_uploads_within<W: Swift>(
         (Given (λ s. TellsBucket bucket s (Some acl)))
         (ListUploads bucket prefix key_marker id_marker max url) label known.Settled result }
     ensures unrefused { Unrefused result }
+    ensures kind { AnswersUpload result }
 {
     let listed = list_uploads(alloc, state, &bucket, &prefix, &key_marker, &id_marker, max)?;
     Ok(end_list_uploads_plan(bucket, prefix, key_marker, id_marker, max, url, listed))

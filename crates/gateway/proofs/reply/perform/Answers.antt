@@ -1,6 +1,7 @@
 use Rattle.std.proofs.Common.{sym, ap, ◌∙◌}
 use Rattle.account_calls.specs.Answers.{plans_many, plans_uploads}
 use Rattle.gateway.proofs.Operating.{performs_or_finds, reads_no_upload, reads_no_many}
+use Rattle.gateway.proofs.Bodiless.{many_bodiless, upload_bodiless}
 use Rattle.gateway.proofs.reply.perform.Goals as goal
 
 pub returns-in-One-clause-performs : goal.returns-in-One-clause-performs
@@ -12,3 +13,9 @@ returns-in-Uploads-clause-leaves g c = λ reads. absurd (reads_no_upload c.args.
 
 pub returns-in-Many-clause-leaves : goal.returns-in-Many-clause-leaves
 returns-in-Many-clause-leaves g c = λ reads. absurd (reads_no_many c.args.op reads (ap plans_many (sym c.plans_of.ensures ∙ c.in-Many.is)))
+
+pub returns-in-Uploads-clause-bodiless : goal.returns-in-Uploads-clause-bodiless
+returns-in-Uploads-clause-bodiless g c = upload_bodiless _ c.answer-replied.ensures.kind
+
+pub returns-in-Many-clause-bodiless : goal.returns-in-Many-clause-bodiless
+returns-in-Many-clause-bodiless g c = many_bodiless _ c.answer-in-Many.ensures.kind

@@ -25,7 +25,7 @@ returns-clause-operated g c =
       | in-Settled w ↦ readied_at_once w.in-Settled.is (ap g.W.Swift.history w.store-is)
       | in-Unsure+in-Ok w ↦ readied_by w.in-Unsure.is (ap g.W.Swift.history w.store-is) w.in-Ok.ensures
     ] in
-    operated_or_reads c.args.settings.now c.args.op c.args.label.now old middle (g.W.Swift.history c.perform_on_settled_store-answer.new.store) c.args.known.now c.perform_on_settled_store-answer.result.known c.perform_on_settled_store-answer.result.reading readied c.perform_on_settled_store-answer.ensures.performs
+    operated_or_reads c.args.settings.now c.args.op c.args.label.now old middle (g.W.Swift.history c.perform_on_settled_store-answer.new.store) c.args.known.now c.perform_on_settled_store-answer.result.known c.perform_on_settled_store-answer.result.reading readied c.perform_on_settled_store-answer.ensures.performs c.perform_on_settled_store-answer.ensures.bodiless
 
 pub returns-in-Err-clause-leaves : goal.returns-in-Err-clause-leaves
 returns-in-Err-clause-leaves g c = λ reads. rw c.unsettled.ensures (unsettled_leaves c.in-Err.fault)

@@ -7,6 +7,8 @@ use Rattle.plan_uploads.specs.Plans.{LeavesBeside}
 use Rattle.plan_uploads.proofs.Behind.{clears_behind, clears_fault, drop_fails, gone_then, purged_at}
 use Rattle.plan_uploads.proofs.Stopping.{gone_unrefused}
 use Rattle.account_calls.specs.Refusals.{Unrefused}
+use Rattle.plan_uploads.specs.Replies.{AnswersUpload}
+use Rattle.plan_uploads.proofs.ReplyKinds.{kind_gone}
 use Rattle.plan_uploads.proofs.abort.plan_abort_and_purge_upload.Goals as goal
 
 pub returns-in_err-drop_record-clause-plans : goal.returns-in_err-drop_record-clause-plans
@@ -33,3 +35,6 @@ returns-clause-beside g c = λ key text label.
 
 pub returns-clause-unrefused : goal.returns-clause-unrefused
 returns-clause-unrefused g c = subst Unrefused (sym c.end_abort_upload_plan.ensures) (gone_unrefused _)
+
+pub returns-clause-kind : goal.returns-clause-kind
+returns-clause-kind g c = subst AnswersUpload (sym c.end_abort_upload_plan.ensures) (kind_gone _)

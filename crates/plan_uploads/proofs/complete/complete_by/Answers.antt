@@ -6,6 +6,7 @@ use Rattle.plan_uploads.specs.declared.complete.Completing.{Completing}
 use Rattle.plan_uploads.proofs.CompletionEnds.{refused_ensures}
 use Rattle.plan_uploads.specs.Completing.{ShownByParts}
 use Rattle.plan_uploads.proofs.Unfinished.{not_begun, not_needed}
+use Rattle.plan_uploads.specs.Replies.{AnswersUpload}
 use Rattle.plan_uploads.proofs.complete.complete_by.Goals as goal
 
 pub returns-in_err-chosen-clause-plans : goal.returns-in_err-chosen-clause-plans
@@ -36,3 +37,6 @@ returns-in_default-clause-unsure g c = not_needed _ _ c.end_complete_upload_refu
 
 pub returns-clause-unsure : goal.returns-clause-unsure
 returns-clause-unsure g c = c.complete_chosen.ensures.unsure
+
+pub returns-in_default-clause-kind : goal.returns-in_default-clause-kind
+returns-in_default-clause-kind g c = subst (λ (x : Completing). AnswersUpload x.end) (sym c.end_complete_upload_refused.ensures) refl

@@ -10,6 +10,7 @@ use Rattle.plan_uploads.specs.declared.complete.Completing.{Completing}
 use Rattle.plan_uploads.proofs.CompletionEnds.{refused_ensures}
 use Rattle.plan_uploads.proofs.Stopping.{shown_by_none}
 use Rattle.plan_uploads.proofs.Unfinished.{not_begun, not_needed}
+use Rattle.plan_uploads.specs.Replies.{AnswersUpload}
 use Rattle.plan_uploads.proofs.complete.complete_chosen.Goals as goal
 
 pub returns-then-has_small_chosen_part-clause-plans : goal.returns-then-has_small_chosen_part-clause-plans
@@ -54,3 +55,6 @@ returns-in_err-sealed-clause-unsure g c = not_begun _ _ c.from_residual.ensures.
 
 pub returns-clause-unsure : goal.returns-clause-unsure
 returns-clause-unsure g c = c.complete_sealed-completing.ensures.unsure
+
+pub returns-then-has_small_chosen_part-clause-kind : goal.returns-then-has_small_chosen_part-clause-kind
+returns-then-has_small_chosen_part-clause-kind g c = subst (λ (x : Completing). AnswersUpload x.end) (sym c.end_complete_upload_refused.ensures) refl

@@ -1,4 +1,4 @@
-use Rattle.std.proofs.Common.{◌≡◌, sym, ap, ◌∙◌, false, arith, rules, subst}
+use Rattle.std.proofs.Common.{◌≡◌, sym, ap, ◌∙◌, false, arith, rules, subst, refl}
 use Rattle.s3_names.specs.Id.{id_digits}
 use Rattle.s3_machine.specs.declared.code.Code.TheVariants.{InvalidPartOrder}
 use Rattle.s3_machine.specs.Uploads.{rises}
@@ -15,6 +15,7 @@ use Rattle.account_calls.proofs.lemmas.Refusals.{stops_unshown}
 use Rattle.account_calls.specs.Refusals.{Stops}
 use Rattle.account_calls.specs.Shows.{alone}
 use Rattle.plan_uploads.proofs.Unfinished.{broke_behind, not_begun, not_needed}
+use Rattle.plan_uploads.specs.Replies.{AnswersUpload}
 use Rattle.plan_uploads.proofs.complete.complete_open.Goals as goal
 
 pub returns-then-not-rises-clause-plans : goal.returns-then-not-rises-clause-plans
@@ -53,3 +54,6 @@ returns-in_err-parts-clause-unsure g c = not_begun _ _ c.from_residual.ensures.1
 
 pub returns-clause-unsure : goal.returns-clause-unsure
 returns-clause-unsure g c = broke_behind c.in_ok-parts.ensures.asks.cause c.complete_by.ensures.unsure
+
+pub returns-then-not-rises-clause-kind : goal.returns-then-not-rises-clause-kind
+returns-then-not-rises-clause-kind g c = subst (λ (x : Completing). AnswersUpload x.end) (sym c.end_complete_upload_refused.ensures) refl

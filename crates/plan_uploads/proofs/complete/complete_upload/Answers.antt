@@ -17,6 +17,7 @@ use Rattle.std.specs.Prelude.{◌+◌, length}
 use Rattle.swift_calls.specs.History.{present}
 use Rattle.upload_records.specs.Native.{s3_state, sub_manifests}
 use Rattle.plan_uploads.proofs.Unfinished.{broke_behind, not_begun, not_needed}
+use Rattle.plan_uploads.specs.Replies.{AnswersUpload}
 use Rattle.plan_uploads.proofs.complete.complete_upload.Goals as goal
 
 pub returns-in_err-find_upload_to_complete-clause-plans : goal.returns-in_err-find_upload_to_complete-clause-plans
@@ -96,3 +97,12 @@ returns-in_ok-end_complete_upload_again-in-Again-clause-unsure g c = not_needed 
 
 pub returns-in-Open-clause-unsure : goal.returns-in-Open-clause-unsure
 returns-in-Open-clause-unsure g c = broke_behind c.in_ok-find_upload_to_complete.ensures.asks.cause c.complete_open.ensures.unsure
+
+pub returns-in-NoBucket-clause-kind : goal.returns-in-NoBucket-clause-kind
+returns-in-NoBucket-clause-kind g c = subst (λ (x : Completing). AnswersUpload x.end) (sym c.end_complete_upload_refused.ensures) refl
+
+pub returns-in-NoUpload-clause-kind : goal.returns-in-NoUpload-clause-kind
+returns-in-NoUpload-clause-kind g c = subst (λ (x : Completing). AnswersUpload x.end) (sym c.end_complete_upload_refused-in-NoUpload.ensures) refl
+
+pub returns-in_ok-end_complete_upload_again-in-Again-clause-kind : goal.returns-in_ok-end_complete_upload_again-in-Again-clause-kind
+returns-in_ok-end_complete_upload_again-in-Again-clause-kind g c = subst (λ (x : Completing). AnswersUpload x.end) (sym c.in_ok-end_complete_upload_again-in-Again.ensures) refl

@@ -8,6 +8,8 @@ use Rattle.plan_uploads.proofs.Creating.{may_open, new_id, opens_first}
 use Rattle.plan_uploads.proofs.Steps.{created, it}
 use Rattle.account_calls.proofs.lemmas.Refusals.{unrefused_ended}
 use Rattle.account_calls.specs.Refusals.{Unrefused}
+use Rattle.plan_uploads.specs.Replies.{AnswersUpload}
+use Rattle.plan_uploads.proofs.ReplyKinds.{kind_ended}
 use Rattle.plan_uploads.proofs.create.start.Goals as goal
 
 pub returns-in_err-name-clause-plans : goal.returns-in_err-name-clause-plans
@@ -32,3 +34,6 @@ returns-clause-stands g c =
 
 pub returns-clause-unrefused : goal.returns-clause-unrefused
 returns-clause-unrefused g c = subst Unrefused (sym c.end_create_upload_plan.ensures) (unrefused_ended _ (λ told. refl) _)
+
+pub returns-clause-kind : goal.returns-clause-kind
+returns-clause-kind g c = subst AnswersUpload (sym c.end_create_upload_plan.ensures) (kind_ended _ (λ told. refl) _)

@@ -3,6 +3,7 @@ use Rattle.account_calls.specs.Plan.{Answered}
 use Rattle.account_calls.proofs.lemmas.Puts.{ensures_reply}
 use Rattle.plan_uploads.proofs.Answering.{answered_alike, answered_as, answered_with}
 use Rattle.plan_uploads.specs.Completing.{known_after_completion}
+use Rattle.plan_uploads.proofs.ReplyKinds.{kind_reply}
 use Rattle.plan_uploads.proofs.operation.answer_upload_operation.Goals as goal
 
 pub returns-in-CompleteUpload-clause-answered : goal.returns-in-CompleteUpload-clause-answered
@@ -26,3 +27,9 @@ returns-in-CompleteUpload-clause-unsure g c = record {
 
 pub returns-in_default-clause-unsure : goal.returns-in_default-clause-unsure
 returns-in_default-clause-unsure g c = record { known = refl; by = tt }
+
+pub returns-in-CompleteUpload-clause-kind : goal.returns-in-CompleteUpload-clause-kind
+returns-in-CompleteUpload-clause-kind g c = rw c.completed.ensures.reply (kind_reply _ c.complete_upload.ensures.kind)
+
+pub returns-in_default-clause-kind : goal.returns-in_default-clause-kind
+returns-in_default-clause-kind g c = rw c.reply_of.ensures (kind_reply _ c.plan.ensures.kind)

@@ -14,7 +14,7 @@ pub returns-in-ListParts-clause-plans : goal.returns-in-ListParts-clause-plans
 returns-in-ListParts-clause-plans g c = rw c.in-ListParts.is (rw (c.taken_text-in-ListParts.ensures, c.taken_text-in-ListParts-2.ensures) at (c.plan_list_parts.ensures.plans c.args.label.now))
 
 pub returns-in_default : goal.returns-in_default
-returns-in_default g c = record { stays = record { store = refl; settings = refl }; plans = out_of_memory _ (Err Memory) refl; beside = beside_none _ _ _ _ (Err Memory) refl; stops = record { so = tt }; stands = record { so = λ observable. tt } }
+returns-in_default g c = record { stays = record { store = refl; settings = refl }; plans = out_of_memory _ (Err Memory) refl; beside = beside_none _ _ _ _ (Err Memory) refl; stops = record { so = tt }; stands = record { so = λ observable. tt }; kind = tt }
 
 pub returns-in-ListUploads-clause-stands : goal.returns-in-ListUploads-clause-stands
 returns-in-ListUploads-clause-stands g c = rw c.in-ListUploads.is (ensures_nothing _)

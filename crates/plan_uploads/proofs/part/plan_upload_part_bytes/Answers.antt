@@ -7,6 +7,8 @@ use Rattle.upload_calls.proofs.lemmas.Opened.{has_open}
 use Rattle.plan_uploads.proofs.Steps.{part_stored}
 use Rattle.account_calls.proofs.lemmas.Refusals.{unrefused_ended}
 use Rattle.account_calls.specs.Refusals.{Unrefused}
+use Rattle.plan_uploads.specs.Replies.{AnswersUpload}
+use Rattle.plan_uploads.proofs.ReplyKinds.{kind_ended}
 use Rattle.plan_uploads.proofs.part.plan_upload_part_bytes.Goals as goal
 
 pub returns-in_err-text-clause-plans : goal.returns-in_err-text-clause-plans
@@ -23,3 +25,6 @@ returns-clause-stands g c = subst (EnsuresIfDone _ _) (sym c.end_upload_part_pla
 
 pub returns-clause-unrefused : goal.returns-clause-unrefused
 returns-clause-unrefused g c = subst Unrefused (sym c.end_upload_part_plan.ensures) (unrefused_ended _ (λ told. refl) _)
+
+pub returns-clause-kind : goal.returns-clause-kind
+returns-clause-kind g c = subst AnswersUpload (sym c.end_upload_part_plan.ensures) (kind_ended _ (λ told. refl) _)

@@ -5,6 +5,8 @@ use Rattle.account_calls.specs.Answers.{may_be_sealed}
 use Rattle.account_calls.specs.Refusals.{Unrefused, is_refusal}
 use Rattle.plan_uploads.specs.declared.complete.Completing.{Completing}
 use Rattle.plan_uploads.proofs.Unfinished.{rolling_broke, seal_broke}
+use Rattle.plan_uploads.specs.Replies.{AnswersUpload, is_upload_reply}
+use Rattle.plan_uploads.proofs.ReplyKinds.{kind_sealed}
 use Rattle.plan_uploads.proofs.seal.seal_and_finish.Goals as goal
 
 pub returns-in-Ok-clause-plans : goal.returns-in-Ok-clause-plans
@@ -30,3 +32,6 @@ returns-in-Ok-clause-unsure g c = rolling_broke _ _ c.end_complete_upload_sealed
 
 pub returns-in-Err-clause-unsure : goal.returns-in-Err-clause-unsure
 returns-in-Err-clause-unsure g c = seal_broke c.in-Err.fault c.in-Err.ensures.seals.cause
+
+pub returns-in-Ok-clause-kind : goal.returns-in-Ok-clause-kind
+returns-in-Ok-clause-kind g c = subst (λ (x : Completing). AnswersUpload x.end) (sym c.end_complete_upload_sealed.ensures) (kind_sealed _ _ (ap is_upload_reply c.requires.reply))

@@ -12,6 +12,7 @@ use Rattle.upload_calls.proofs.lemmas.Opened.{has_open}
 use Rattle.plan_uploads.specs.Plans.{parts_told}
 use Rattle.plan_uploads.proofs.Steps.{only_parts, parts_are_own, parts_listed}
 use Rattle.account_calls.specs.Refusals.{Unrefused}
+use Rattle.plan_uploads.specs.Replies.{AnswersUpload}
 use Rattle.plan_uploads.proofs.uploads.plan_list_parts_within.Goals as goal
 
 pub returns-in_err-listed-clause-plans : goal.returns-in_err-listed-clause-plans
@@ -32,3 +33,6 @@ returns-clause-plans g c = λ text label.
 
 pub returns-clause-unrefused : goal.returns-clause-unrefused
 returns-clause-unrefused g c = subst (λ r. Unrefused (Ok r)) (sym c.end_list_parts_plan.ensures) refl
+
+pub returns-clause-kind : goal.returns-clause-kind
+returns-clause-kind g c = subst (λ r. AnswersUpload (Ok r)) (sym c.end_list_parts_plan.ensures) refl

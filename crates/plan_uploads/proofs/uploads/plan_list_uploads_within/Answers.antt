@@ -8,6 +8,7 @@ use Rattle.upload_calls.proofs.lemmas.Finding.{met_there}
 use Rattle.plan_uploads.specs.Plans.{uploads_told}
 use Rattle.plan_uploads.proofs.Steps.{uploads_are_own, uploads_listed}
 use Rattle.account_calls.specs.Refusals.{Unrefused}
+use Rattle.plan_uploads.specs.Replies.{AnswersUpload}
 use Rattle.plan_uploads.proofs.uploads.plan_list_uploads_within.Goals as goal
 
 pub returns-in_err-listed-clause-plans : goal.returns-in_err-listed-clause-plans
@@ -28,3 +29,6 @@ returns-clause-plans g c = λ acl label.
 
 pub returns-clause-unrefused : goal.returns-clause-unrefused
 returns-clause-unrefused g c = subst (λ r. Unrefused (Ok r)) (sym c.end_list_uploads_plan.ensures) refl
+
+pub returns-clause-kind : goal.returns-clause-kind
+returns-clause-kind g c = subst (λ r. AnswersUpload (Ok r)) (sym c.end_list_uploads_plan.ensures) refl
