@@ -4,8 +4,8 @@ ghost use Rattle.std.specs.List.{prefix_len, suffix_len};
 ghost use Rattle.gate_base.specs.Ascii.{is_blank};
 ghost use Rattle.chunked.specs.Sent.{behind_blanks, before_blanks, without_blanks};
 
-/// The text without the spaces and tabs at its ends.
-pub(crate) fn without_chunk_blanks(text: &[u8]) -> &[u8]
+/// The text without the spaces and tabs at its ends (RFC 9110, section 5.6.3, optional whitespace).
+pub fn without_blanks(text: &[u8]) -> &[u8]
     ensures { result.now ≡ without_blanks text.now }
 {
     before_chunk_blanks(behind_chunk_blanks(text))

@@ -3,7 +3,7 @@ ghost use Rattle.std.specs.Prelude.{◌≡◌, ◌++◌, IfOk, OnOk, drop, flat_
 ghost use Rattle.std.specs.List.{position_or_len, slice_split};
 ghost use Rattle.chunked.specs.Encoding.{is_comma, is_chunked_token, kept_piece, without_chunked};
 
-use crate::blanks::without_chunk_blanks;
+use crate::blanks::without_blanks;
 use gate_base::{Bytes, Memory, cut, first_place};
 use std::alloc::Global;
 
@@ -16,7 +16,7 @@ pub fn without_chunked(alloc: Global, text: &[u8]) -> Result<Bytes, Memory>
     let kept = kept_encodings(alloc, text)?;
     Bytes::from_slice(
         alloc,
-        without_chunk_blanks(behind_encoding_comma(kept.as_slice())),
+        without_blanks(behind_encoding_comma(kept.as_slice())),
     )
 }
 
@@ -62,5 +62,5 @@ fn keep_encoding(kept: &mut Bytes, piece: &[u8]) -> Result<(), Memory>
 fn is_chunked_token(piece: &[u8]) -> bool
     ensures { result ≡ is_chunked_token piece.now }
 {
-    without_chunk_blanks(piece).eq_ignore_ascii_case(b"aws-chunked")
+    without_blanks(piece).eq_ignore_ascii_case(b"aws-chunked")
 }

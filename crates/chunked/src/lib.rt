@@ -15,6 +15,7 @@ mod scan;
 mod sign;
 mod trailers;
 
+pub use blanks::without_blanks;
 pub use body::{Decoded, decode};
 pub use encoding::without_chunked;
 pub use fault::ChunkedFault;

@@ -6,7 +6,7 @@ ghost use Rattle.chunked.specs.Sent.{pair_of};
 ghost use Rattle.chunked.specs.Views.{line_of, lines, trailing};
 
 use crate::ChunkedFault;
-use crate::blanks::without_chunk_blanks;
+use crate::blanks::without_blanks;
 use crate::scan::{ChunkClass, read_chunk_run, read_chunk_word};
 use gate_base::{Bytes, List, Memory, Pair};
 use std::alloc::Global;
@@ -38,7 +38,7 @@ fn chunked_line_pair(alloc: Global, line: &LineParts<'_>) -> Result<Pair, Memory
 {
     Ok(Pair {
         name: lowercase_chunked_name(alloc, line.name)?,
-        value: Bytes::from_slice(alloc, without_chunk_blanks(line.text))?,
+        value: Bytes::from_slice(alloc, without_blanks(line.text))?,
     })
 }
 

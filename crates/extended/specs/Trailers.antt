@@ -1,25 +1,18 @@
 -- The trailers that a message announces and those that came. Source: Amazon S3 API Reference, as in `Chunks`, "including trailing
 -- headers"; a list of names is RFC 9110, section 5.6.1.
-use Rattle.std.specs.Prelude.{ℕ, ◌-◌, Bool, not, ◌&&◌, ◌||◌, ◌==◌, List, [], map, take, drop, length, codes, bytes_eq}
+use Rattle.std.specs.Prelude.{ℕ, Bool, not, ◌&&◌, ◌||◌, ◌==◌, List, [], map, codes, bytes_eq}
 use Rattle.std.specs.Char.{to_ascii_lowercase}
-use Rattle.std.specs.List.{list_any, prefix_len, suffix_len, slice_split}
-use Rattle.gate_base.specs.Ascii.{is_blank}
+use Rattle.std.specs.List.{list_any, slice_split}
 use Rattle.gate_base.specs.declared.page.Pair.{Pair}
+use Rattle.chunked.specs.Sent.{without_blanks}
 use Rattle.http_wire.specs.Headers.{text_of}
 
 abbrev pub is_comma : ℕ → Bool
 is_comma byte = byte == 44
 
--- the text behind the blanks at its start, and the text before those at its end
-abbrev pub behind_blanks : List ℕ → List ℕ
-behind_blanks text = drop (prefix_len is_blank text) text
-
-abbrev pub before_blanks : List ℕ → List ℕ
-before_blanks text = take (length text - suffix_len is_blank text) text
-
 -- a piece between commas names this name: in any case, with blanks around it
 unfoldable pub names : List ℕ → List ℕ → Bool
-names piece name = bytes_eq (map to_ascii_lowercase (before_blanks (behind_blanks piece))) (map to_ascii_lowercase name)
+names piece name = bytes_eq (map to_ascii_lowercase (without_blanks piece)) (map to_ascii_lowercase name)
 
 -- the text of the list of trailers
 abbrev pub trailer_list : List Pair → List ℕ

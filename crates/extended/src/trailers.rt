@@ -1,9 +1,8 @@
 //! The trailers that a message announces, and those that came.
-ghost use Rattle.std.specs.Prelude.{◌≡◌, ◌≤◌, ◌||◌, IfOk, length};
-ghost use Rattle.std.specs.List.{prefix_len, suffix_len};
-ghost use Rattle.gate_base.specs.Ascii.{is_blank};
-ghost use Rattle.extended.specs.Trailers.{behind_blanks, before_blanks, has_come, has_missing, has_unnamed, is_comma, is_missing, is_named, misnames, names, trailer_list};
+ghost use Rattle.std.specs.Prelude.{◌≡◌, ◌||◌, IfOk};
+ghost use Rattle.extended.specs.Trailers.{has_come, has_missing, has_unnamed, is_comma, is_missing, is_named, misnames, names, trailer_list};
 
+use chunked::without_blanks;
 use gate_base::{Memory, Pair};
 use http_wire::text_of;
 use std::alloc::Global;
@@ -70,42 +69,5 @@ fn is_trailer_comma(byte: u8) -> bool
 fn names_trailer(piece: &[u8], name: &[u8]) -> bool
     ensures { result ≡ names piece.now name.now }
 {
-    before_trailer_blanks(behind_trailer_blanks(piece)).eq_ignore_ascii_case(name)
-}
-
-fn behind_trailer_blanks(text: &[u8]) -> &[u8]
-    ensures { result.now ≡ behind_blanks text.now }
-{
-    &text[first_trailer_blanks(text)..]
-}
-
-fn before_trailer_blanks(text: &[u8]) -> &[u8]
-    ensures { result.now ≡ before_blanks text.now }
-{
-    &text[..text.len() - last_trailer_blanks(text)]
-}
-
-fn first_trailer_blanks(text: &[u8]) -> usize
-    ensures is { result ≡ prefix_len is_blank text.now }
-    ensures within { result ≤ length text.now }
-{
-    text.iter()
-        .take_while(|byte| is_trailer_blank(**byte))
-        .count()
-}
-
-fn last_trailer_blanks(text: &[u8]) -> usize
-    ensures is { result ≡ suffix_len is_blank text.now }
-    ensures within { result ≤ length text.now }
-{
-    text.iter()
-        .rev()
-        .take_while(|byte| is_trailer_blank(**byte))
-        .count()
-}
-
-fn is_trailer_blank(byte: u8) -> bool
-    ensures { result ≡ is_blank byte }
-{
-    byte == b' ' || byte == b'\t'
+    without_blanks(piece).eq_ignore_ascii_case(name)
 }
