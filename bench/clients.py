@@ -1,7 +1,7 @@
 #!/usr/bin/env python3
 """What clients of `s3gate serve` cost one another: silent, slow, fast and ending ones, side by side, on the loopback interface.
 
-  bench/clients.py [--folder FOLDER] [--seconds N] [--big MIB] [PART..]
+  bench/clients.py [--folder FOLDER] [--seconds N] [--big MIB] [--long GIB] [PART..]
 
 FOLDER has the programs s3gate and swiftd; without it those of crates/*/out are taken (README.md, "Run it"). Each part is run
 with servers of its own; without PART all of them. The big object has 16 MiB unless told otherwise:
@@ -10,6 +10,8 @@ with servers of its own; without PART all of them. The big object has 16 MiB unl
   silent    a small GET beside 20 silent connections, and beside 20 half heads
   slow-put  a small GET beside a PUT of a byte each half second, with and without Expect
   slow-get  small GETs beside one of the big object whose client takes 64 KiB each 50 ms
+  long-get  small GETs beside one of GIB GiB (1), from a store that makes their bytes, whose client takes 128 MiB a second: how
+            long each waits
   order     requests sent ahead, whole and in pieces; half-closed connections; refusals; the interim answer
   limits    silent clients at S3GATE_IDLE=2, also one whose head comes a byte a second, and one that takes nothing
   ahead     uploads and slow readers past S3GATE_AHEAD=1
@@ -23,16 +25,23 @@ with servers of its own; without PART all of them. The big object has 16 MiB unl
 
 A line that ends in BAD says what went otherwise than it should, and the status is then 1.
 """
-import contextlib, datetime, importlib.util, multiprocessing, os, resource, shutil, socket, subprocess, sys, tempfile, threading, time
+import contextlib, datetime, hashlib, importlib.util, multiprocessing, os, resource, shutil, socket, subprocess, sys, tempfile, threading, time
 
 sys.dont_write_bytecode = True
 os.chdir(os.path.join(os.path.dirname(os.path.abspath(__file__)), ".."))
-spec = importlib.util.spec_from_file_location("sign", "examples/sign.py")
-sign = importlib.util.module_from_spec(spec)
-spec.loader.exec_module(sign)
+
+
+def loaded(name, path):
+    spec = importlib.util.spec_from_file_location(name, path)
+    module = importlib.util.module_from_spec(spec)
+    spec.loader.exec_module(module)
+    return module
+
+
+sign = loaded("sign", "examples/sign.py")
 resource.setrlimit(resource.RLIMIT_NOFILE, (4096, resource.getrlimit(resource.RLIMIT_NOFILE)[1]))
 
-FOLDER, SECONDS, BAD = None, 5.0, []
+FOLDER, SECONDS, LONG, BAD = None, 5.0, 1, []
 SMALL, BIG = b"small", b"z" * (16 << 20)
 GET = b"GET /pub/small HTTP/1.1\r\nHost: x\r\n\r\n"
 INTERIM = b"HTTP/1.1 100 Continue\r\n\r\n"
@@ -247,6 +256,63 @@ def part_slow_get():
         thread.join()
         whole = bytes(got).partition(b"\r\n\r\n")[2] == BIG
         tell(f"slow-get: 200 small GETs beside it {at(took, 0.5):.1f} ms, at most {max(took):.1f}; it got its bytes: {whole}", whole and max(took) < 20)
+
+
+class Zeros:
+    """Bytes of an object that nobody holds: so many zeros, of which a slice is made when it is asked for."""
+
+    def __init__(self, size):
+        self.size = size
+
+    def __len__(self):
+        return self.size
+
+    def __getitem__(self, place):
+        return bytes(min(place.stop, self.size) - place.start)
+
+
+def part_long_get():
+    """An object of parts, by its tag and its ETag, whose bytes a store makes; one client takes it whole, slowly."""
+    size, rate = LONG << 30, 128 << 20
+    scripted = loaded("scripted_swift", "bench/scripted_swift.py")
+    parts = -(-size // (16 << 20))
+    tag = ("Content-Type", f"text/plain;s3={'0' * 32}-{parts}.1369353600.{'1' * 32}")
+    readers = [("X-Container-Read", ".r:*,.rlistings"), ("X-Container-Meta-S3-Created", "1369353600")]
+    small = [("Content-Type", f"text/plain;s3={hashlib.md5(SMALL).hexdigest()}.1369353600.-"), ("Etag", hashlib.md5(SMALL).hexdigest())]
+    held = {b"long": ([tag, ("Etag", f'"{"2" * 32}"'), ("X-Static-Large-Object", "True")], Zeros(size)), b"small": (small, SMALL)}
+    with scripted.Store(account={"pub": (readers, held)}) as store:
+        gate = Gate.__new__(Gate)
+        gate.port, gate.quiet, gate.store = free_port(), {"stdout": subprocess.DEVNULL, "stderr": subprocess.DEVNULL}, subprocess.Popen(["true"])
+        gate.settings = {**os.environ, "S3GATE_KEYS": "examples/keys.txt", "S3GATE_LISTEN": f"127.0.0.1:{gate.port}", "S3GATE_STORE": store.text, "S3GATE_ACCOUNT": scripted.ACCOUNT, "S3GATE_TOKEN": scripted.TOKEN}
+        gate.run(["--connections", "1000000000"])
+        with gate, gate.connect(room=1 << 20) as slow:
+            before = [gate.ask() for _ in range(20)]
+            begun, got, first = time.perf_counter(), 0, []
+
+            def take():
+                nonlocal got
+                room = bytearray(1 << 20)
+                while got < size:
+                    count = slow.recv_into(room)
+                    if not count:
+                        break
+                    if not first:
+                        first.append(1e3 * (time.perf_counter() - begun))
+                        count -= bytes(room[:count]).index(b"\r\n\r\n") + 4
+                    got += count
+                    time.sleep(max(0, got / rate - (time.perf_counter() - begun)))
+
+            slow.sendall(b"GET /pub/long HTTP/1.1\r\nHost: x\r\n\r\n")
+            thread = threading.Thread(target=take)
+            thread.start()
+            time.sleep(0.2)
+            took = []
+            while thread.is_alive():
+                took.append(gate.ask())
+            thread.join()
+            seconds = time.perf_counter() - begun
+            memory = gate.use()[1]
+            tell(f"long-get: {got / 2**30:.1f} of {LONG} GiB in {seconds:.1f} s, its first bytes after {first[0]:.1f} ms; {len(took)} small GETs beside it {at(took, 0.5):.1f} ms, at most {max(took):.0f} ({max(before):.1f} before); s3gate has {memory / 1024:.0f} MiB, {len(store.calls)} calls", got == size)
 
 
 def part_order():
@@ -610,13 +676,15 @@ def part_turns():
 
 
 def main(words):
-    global FOLDER, SECONDS, BIG
+    global FOLDER, SECONDS, BIG, LONG
     parts = {name[5:].replace("_", "-"): part for name, part in globals().items() if name.startswith("part_")}
-    while words and words[0] in ("--folder", "--seconds", "--big"):
+    while words and words[0] in ("--folder", "--seconds", "--big", "--long"):
         if words[0] == "--folder":
             FOLDER = words[1]
         elif words[0] == "--seconds":
             SECONDS = float(words[1])
+        elif words[0] == "--long":
+            LONG = int(words[1])
         else:
             BIG = b"z" * (int(words[1]) << 20)
         words = words[2:]
