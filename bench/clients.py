@@ -292,13 +292,12 @@ def part_long_get():
             def take():
                 nonlocal got
                 room = bytearray(1 << 20)
-                while got < size:
+                head = reply(slow, head_only=True)
+                first.append(1e3 * (time.perf_counter() - begun))
+                while head.startswith(b"HTTP/1.1 200") and got < size:
                     count = slow.recv_into(room)
                     if not count:
                         break
-                    if not first:
-                        first.append(1e3 * (time.perf_counter() - begun))
-                        count -= bytes(room[:count]).index(b"\r\n\r\n") + 4
                     got += count
                     time.sleep(max(0, got / rate - (time.perf_counter() - begun)))
 
@@ -312,7 +311,7 @@ def part_long_get():
             thread.join()
             seconds = time.perf_counter() - begun
             memory = gate.use()[1]
-            tell(f"long-get: {got / 2**30:.1f} of {LONG} GiB in {seconds:.1f} s, its first bytes after {first[0]:.1f} ms; {len(took)} small GETs beside it {at(took, 0.5):.1f} ms, at most {max(took):.0f} ({max(before):.1f} before); s3gate has {memory / 1024:.0f} MiB, {len(store.calls)} calls", got == size)
+            tell(f"long-get: {got / 2**30:.1f} of {LONG} GiB in {seconds:.1f} s, its head after {first[0]:.1f} ms; {len(took)} small GETs beside it {at(took, 0.5):.1f} ms, at most {max(took):.0f} ({max(before):.1f} before); s3gate has {memory / 1024:.0f} MiB, {len(store.calls)} calls", got == size)
 
 
 def part_order():
