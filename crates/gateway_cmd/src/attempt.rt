@@ -1,5 +1,5 @@
 //! A run but for its report: the words, and then the command that they name.
-ghost use Rattle.std.specs.Prelude.{◌≡◌, ◌≤◌, ℕ, true, false, IsTrue, List, Some, None};
+ghost use Rattle.std.specs.Prelude.{◌≡◌, ◌≢◌, ◌≤◌, ℕ, true, false, IsTrue, List, Some, None};
 ghost use Rattle.gate_base.specs.Told.{ClockNow, SourceModel};
 ghost use Rattle.account_calls.specs.declared.state.Known.{Known as what_is_known};
 ghost use Rattle.account_calls.specs.declared.state.Known.TheVariants.{Unsure};
@@ -231,6 +231,7 @@ fn serve<N: Line<W>, W: Swift, C: Clock, D: Draws>(
     draws: &mut D,
 ) -> Status
     ensures fits { Fits (to_serve (record { settings = settings; most = most })) (ended.Plain result) }
+    ensures taken { ended.Plain result ≢ ended.Plain status.Usage }
     ensures line { LineServed (record { settings = settings; most = most })
         (is_failed_run (ended.Plain result)) (is_done (ended.Plain result))
         (N.model line.old) (N.model line.new) }

@@ -5,6 +5,9 @@ use Rattle.gateway_cmd.proofs.attempt.serve.Goals as goal
 pub returns-in-Done-clause-fits : goal.returns-in-Done-clause-fits
 returns-in-Done-clause-fits g c = refl
 
+pub returns-in-Done-clause-taken : goal.returns-in-Done-clause-taken
+returns-in-Done-clause-taken g c = λ e. cc
+
 pub returns-in-Done-clause-line : goal.returns-in-Done-clause-line
 returns-in-Done-clause-line g c = line_served_out (record { settings = c.args.settings; most = c.args.most }) (g.N.Line.model c.args.line.now) (g.N.Line.model c.session.new.line) (rw c.in-Done.is at c.session.ensures.line)
 
@@ -13,6 +16,9 @@ returns-in-Done-clause-serves g c = (c.session.new.known, c.session.ensures.serv
 
 pub returns-clause-fits : goal.returns-clause-fits
 returns-clause-fits g c = refl
+
+pub returns-clause-taken : goal.returns-clause-taken
+returns-clause-taken g c = λ e. cc
 
 pub returns-clause-line : goal.returns-clause-line
 returns-clause-line g c = line_served_on (record { settings = c.args.settings; most = c.args.most }) (g.N.Line.model c.args.line.now) (g.N.Line.model c.session.new.line) (rw c.in-Line.is at c.session.ensures.line)
