@@ -1,5 +1,5 @@
--- What is read and put of a completion that is sealed, and what is put of a copy that is laid out like one. Source: Object Storage API v1, "Static large
--- objects", and this profile.
+-- What is read and put of a completion that is sealed, and what is put of a copy that is laid out like one. Source: Object Storage
+-- API v1, "Static large objects", and this profile.
 use Rattle.std.specs.Prelude.{◌+◌, ℕ, Bool, true, false, List, [], ◌∷◌, Option, None, Result, Ok, Err, codes}
 use Rattle.s3_names.specs.Id.{id_digits}
 use Rattle.slo_manifest.specs.declared.Segment.{Segment}
@@ -18,11 +18,12 @@ use Rattle.account_calls.specs.declared.fault.PlanFault.{PlanFault}
 use Rattle.account_calls.specs.declared.fault.PlanFault.TheVariants.{Inconsistent}
 use Rattle.account_calls.specs.Interpret.{known}
 
+-- by whether the file lists segments, and its own bytes
 abbrev pub sealed_by : Bool → List ℕ → Result (Option Sealed) PlanFault
 sealed_by true text = Err Inconsistent
 sealed_by false text = known (read_sealed text)
 
--- GET of the file of what is sealed: what its own bytes read as; one that lists segments is none
+-- GET of the file of what is sealed: what its own bytes read as, or that it isn't there; one that lists segments is inconsistent
 abbrev pub sealed_due : SwiftReply → Result (Option Sealed) PlanFault
 sealed_due (Bytes head body) = sealed_by head.manifest body
 sealed_due NotFound = Ok None

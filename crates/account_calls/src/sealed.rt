@@ -21,9 +21,8 @@ use swift_marks::{Tag, pack};
 use upload_records::{segment_name, segments_container};
 use upload_texts::{RecordFault, Sealed, SealedPart};
 
-/// The completion that the answer to GET of the file of what is sealed tells of, and `None` where that isn't there. A file that lists
-/// segments is none. Memory where memory ran out; Inconsistent where the answer is another one, or the bytes are no such text; never
-/// Failed.
+/// The completion that the answer to GET of the file of what is sealed tells of, and `None` where that isn't there. Memory where memory
+/// ran out; Inconsistent where the file lists segments, its bytes are no such text, or the answer is another one; never Failed.
 pub fn interpret_sealed_get(alloc: Global, reply: &SwiftReply) -> Result<Option<Sealed>, PlanFault>
     ensures due { Gives result (sealed_due reply.now) }
     ensures own { result ≢ Err fault.Failed }

@@ -1,4 +1,4 @@
--- The replies are of the kind of their operations.
+-- The replies are ones to deletions and copies.
 use Rattle.std.specs.Prelude.{◌≡◌, true, Result, Ok, Err}
 use Rattle.std.proofs.Common.{refl}
 use Rattle.s3_machine.specs.declared.operation.Reply.{Reply}
