@@ -1,11 +1,6 @@
--- A body in chunks, byte by byte as it is sent: chunks of at least one byte, an empty chunk, lines, and an empty line.
---
---     chunks  LENGTH CRLF BYTES CRLF, or LENGTH ";chunk-signature=" SIGNATURE CRLF BYTES CRLF
---     last    the same of no byte, without the CRLF behind the bytes
---     lines   NAME ":" TEXT CRLF
---
--- Source: Amazon S3 API Reference, as in `Forms`. That a line may end with LF CRLF is what minio-go sends; that a length has 1 to 16
--- digits, a name 1 to 128 bytes and a text 1,024 at most is this profile's.
+-- A body in chunks, byte by byte as it is sent: chunks of at least one byte, an empty chunk, lines, and an empty line. Source: Amazon
+-- S3 API Reference, as in `Forms`. That a line may end with LF CRLF is what minio-go sends; that a length has 1 to 16 digits, a name 1
+-- to 128 bytes and a text 1,024 at most is this profile's.
 use Rattle.std.specs.Prelude.{◌≡◌, ℕ, ◌≤◌, ◌<◌, ◌-◌, Bool, true, false, ◌||◌, ◌&&◌, ◌==◌, nat_le, nat_lt}
 use Rattle.std.specs.Prelude.{List, [], ◌∷◌, ◌++◌, length, map, take, drop, flat_map, codes}
 use Rattle.std.specs.List.{AllByRecursion, list_all, prefix_len, suffix_len}
@@ -18,6 +13,10 @@ use Rattle.chunked.specs.Forms.{is_signed, most_lines}
 
 abbrev pub crlf : List ℕ
 crlf = 13 ∷ 10 ∷ []
+
+--     chunks  LENGTH CRLF BYTES CRLF, or LENGTH ";chunk-signature=" SIGNATURE CRLF BYTES CRLF
+--     last    the same of no byte, without the CRLF behind the bytes
+--     lines   NAME ":" TEXT CRLF
 
 -- `0` to `9`, `A` to `F`, `a` to `f`
 abbrev pub is_hex_digit : ℕ → Bool
