@@ -5,8 +5,9 @@
 #   bench/gate-cost.sh [--anew]
 #
 # With --anew everything is proved from nothing, which is what the table in docs/TESTING.md shows; without it, what earlier
-# runs on this machine kept is not paid again. What `rt ci` says goes to standard error. A process that ends between two
-# samples loses less than a third of a second, so the sum is a little below the whole, which is told by the system.
+# runs on this machine kept is not paid again. A kit whose `rt ci` keeps nothing, as 13b, has no such word: leave it out there.
+# What `rt ci` says goes to standard error. A process that ends between two samples loses less than a third of a second, so the
+# sum is a little below the whole, which is told by the system.
 set -euo pipefail
 cd "$(dirname "$0")/.."
 exec python3 - "$@" <<'PYTHON'
