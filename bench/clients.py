@@ -123,10 +123,10 @@ class Gate:
             it.sendall(lines.encode() + b"\r\nContent-Length: %d\r\n\r\n" % len(body) + body)
             return reply(it)
 
-    def ask(self):
+    def ask(self, timeout=60):
         """The milliseconds of one small GET on a connection of its own."""
         begun = time.perf_counter()
-        with self.connect() as it:
+        with self.connect(timeout=timeout) as it:
             it.sendall(GET)
             got = reply(it)
         assert got.endswith(b"\r\n\r\n" + SMALL), got[:200]
@@ -307,7 +307,7 @@ def part_long_get():
             time.sleep(0.2)
             took = []
             while thread.is_alive():
-                took.append(gate.ask())
+                took.append(gate.ask(timeout=3600))
             thread.join()
             seconds = time.perf_counter() - begun
             memory = gate.use()[1]
