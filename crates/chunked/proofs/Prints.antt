@@ -21,7 +21,8 @@ use Rattle.sigv4.specs.declared.pieces.Seal.{Seal}
 use Rattle.chunked.specs.Chunked.{Chunked}
 use Rattle.chunked.specs.Forms.{is_signed, most_lines}
 use Rattle.chunked.specs.Print.{signature_for, signed_chunk, signed_chunks, signature_behind, signed_lines, signed_last, signed_sent, most_trailers, IsCounted, IsPiece, IsPrintable}
-use Rattle.chunked.specs.Sent.{Chunk, Line, Sent, IsSignature, IsChunk, IsFull, IsLine, is_text_byte, bytes_of, behind_blanks, before_blanks, without_blanks, pair_of, sent_text}
+use Rattle.chunked.specs.Sent.{Chunk, Line, Sent, IsSignature, IsChunk, IsFull, IsLine, is_text_byte, bytes_of, pair_of, sent_text}
+use Rattle.text_forms.specs.Blanks.{behind_blanks, before_blanks, without_blanks}
 use Rattle.chunked.specs.Signatures.{chunk_signature, trailer_signature, has_signature_due, have_signatures_due, has_signature_line, has_trailer_signature_due, is_signature_line, trailers_in}
 
 -- ---- a signature is 64 digits

@@ -3,7 +3,7 @@
 use Rattle.std.specs.Prelude.{ℕ, Bool, ◌==◌, if◌then◌else◌, List, [], ◌∷◌, drop, map, flat_map, codes, bytes_eq}
 use Rattle.std.specs.Char.{to_ascii_lowercase}
 use Rattle.std.specs.List.{slice_split}
-use Rattle.chunked.specs.Sent.{without_blanks}
+use Rattle.text_forms.specs.Blanks.{without_blanks}
 
 abbrev pub is_comma : ℕ → Bool
 is_comma byte = byte == 44

@@ -1,13 +1,14 @@
 -- A body in chunks, byte by byte as it is sent: chunks of at least one byte, an empty chunk, lines, and an empty line. Source: Amazon
 -- S3 API Reference, as in `Forms`. That a line may end with LF CRLF is what minio-go sends; that a length has 1 to 16 digits, a name 1
 -- to 128 bytes and a text 1,024 at most is this profile's.
-use Rattle.std.specs.Prelude.{◌≡◌, ℕ, ◌≤◌, ◌<◌, ◌-◌, Bool, true, false, ◌||◌, ◌&&◌, ◌==◌, nat_le, nat_lt}
-use Rattle.std.specs.Prelude.{List, [], ◌∷◌, ◌++◌, length, map, take, drop, flat_map, codes}
-use Rattle.std.specs.List.{AllByRecursion, list_all, prefix_len, suffix_len}
+use Rattle.std.specs.Prelude.{◌≡◌, ℕ, ◌≤◌, ◌<◌, Bool, true, false, ◌||◌, ◌&&◌, ◌==◌, nat_le, nat_lt}
+use Rattle.std.specs.Prelude.{List, [], ◌∷◌, ◌++◌, length, map, flat_map, codes}
+use Rattle.std.specs.List.{AllByRecursion, list_all}
 use Rattle.std.specs.Char.{digit_value, to_ascii_lowercase}
 use Rattle.std.specs.Str.Parse.{digits_value}
-use Rattle.gate_base.specs.Ascii.{is_blank, is_letter_or_digit, is_lower_hex}
+use Rattle.gate_base.specs.Ascii.{is_letter_or_digit, is_lower_hex}
 use Rattle.gate_base.specs.declared.page.Pair.{Pair}
+use Rattle.text_forms.specs.Blanks.{without_blanks}
 use Rattle.chunked.specs.declared.form.ChunkedForm.{ChunkedForm}
 use Rattle.chunked.specs.Forms.{is_signed, most_lines}
 
@@ -118,16 +119,6 @@ pub record IsSent (form : ChunkedForm) (sent : Sent) : Type 0 where
 -- the bytes of all chunks
 abbrev pub bytes_of : List Chunk → List ℕ
 bytes_of chunks = flat_map (λ chunk. chunk.bytes) chunks
-
--- a text without the blanks at its ends
-abbrev pub behind_blanks : List ℕ → List ℕ
-behind_blanks text = drop (prefix_len is_blank text) text
-
-abbrev pub before_blanks : List ℕ → List ℕ
-before_blanks text = take (length text - suffix_len is_blank text) text
-
-abbrev pub without_blanks : List ℕ → List ℕ
-without_blanks text = before_blanks (behind_blanks text)
 
 -- what a line says: its name in lower case, and its text without the blanks around it
 abbrev pub pair_of : Line → Pair

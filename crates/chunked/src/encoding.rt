@@ -3,9 +3,9 @@ ghost use Rattle.std.specs.Prelude.{◌≡◌, ◌++◌, IfOk, OnOk, drop, flat_
 ghost use Rattle.std.specs.List.{position_or_len, slice_split};
 ghost use Rattle.chunked.specs.Encoding.{is_comma, is_chunked_token, kept_piece, without_chunked};
 
-use crate::blanks::without_blanks;
 use gate_base::{Bytes, Memory, cut, first_place};
 use std::alloc::Global;
+use text_forms::without_blanks;
 
 /// The text of a Content-Encoding without the token `aws-chunked`, in any case and as often as it stands there: the other tokens as
 /// they were, with `,` between each two. The empty text is no encoding.

@@ -2,7 +2,6 @@
 //! say, and the signatures of chunks and trailers.
 #![tactic(auto)]
 
-mod blanks;
 mod body;
 mod chunk;
 mod encoding;
@@ -15,7 +14,6 @@ mod scan;
 mod sign;
 mod trailers;
 
-pub use blanks::without_blanks;
 pub use body::{Decoded, decode};
 pub use encoding::without_chunked;
 pub use fault::ChunkedFault;

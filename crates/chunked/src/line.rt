@@ -6,10 +6,10 @@ ghost use Rattle.chunked.specs.Sent.{pair_of};
 ghost use Rattle.chunked.specs.Views.{line_of, lines, trailing};
 
 use crate::ChunkedFault;
-use crate::blanks::without_blanks;
 use crate::scan::{ChunkClass, read_chunk_run, read_chunk_word};
 use gate_base::{Bytes, List, Memory, Pair};
 use std::alloc::Global;
+use text_forms::without_blanks;
 
 /// A line: its name, the text behind the colon, and what stands before the CRLF that ends it.
 #[derive(Clone, Copy, Debug)]

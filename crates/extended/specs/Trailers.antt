@@ -4,7 +4,7 @@ use Rattle.std.specs.Prelude.{ℕ, Bool, not, ◌&&◌, ◌||◌, ◌==◌, List
 use Rattle.std.specs.Char.{to_ascii_lowercase}
 use Rattle.std.specs.List.{list_any, slice_split}
 use Rattle.gate_base.specs.declared.page.Pair.{Pair}
-use Rattle.chunked.specs.Sent.{without_blanks}
+use Rattle.text_forms.specs.Blanks.{without_blanks}
 use Rattle.http_wire.specs.Headers.{text_of}
 
 abbrev pub is_comma : ℕ → Bool

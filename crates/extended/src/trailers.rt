@@ -2,10 +2,10 @@
 ghost use Rattle.std.specs.Prelude.{◌≡◌, ◌||◌, IfOk};
 ghost use Rattle.extended.specs.Trailers.{has_come, has_missing, has_unnamed, is_comma, is_missing, is_named, misnames, names, trailer_list};
 
-use chunked::without_blanks;
 use gate_base::{Memory, Pair};
 use http_wire::text_of;
 use std::alloc::Global;
+use text_forms::without_blanks;
 
 /// Whether the trailers that came aren't those which `x-amz-trailer` names: one that isn't named, or a name of none.
 pub(crate) fn misnames_trailers(

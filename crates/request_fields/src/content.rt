@@ -1,5 +1,5 @@
 //! What an object is put with: the digest of its body, its content type and its user metadata.
-ghost use Rattle.std.specs.Prelude.{◌≡◌, ◌&&◌, ◌||◌, ◌==◌, IfOk, OnOk, Ok, true, false};
+ghost use Rattle.std.specs.Prelude.{◌≡◌, ◌&&◌, ◌||◌, ◌==◌, IfOk, OnOk, Ok, false};
 ghost use Rattle.std.specs.List.{starts_with};
 ghost use Rattle.base64.specs.Engines.{standard};
 ghost use Rattle.base64.specs.GeneralPurpose.{encode_of};
@@ -13,7 +13,7 @@ use base64::engine::general_purpose::STANDARD;
 use gate_base::{Bytes, Memory, Pair};
 use http_wire::{has_header, text_of};
 use md5::{Digest, Md5};
-use s3_machine::{is_meta_name, is_meta_value};
+use s3_machine::{is_kept_header, is_meta_name, is_meta_value};
 use s3_names::Meta;
 use std::alloc::Global;
 
@@ -80,16 +80,6 @@ fn is_amz_meta_header(name: &[u8]) -> bool
     ensures { result ≡ is_amz_meta_header name.now }
 {
     name.starts_with(b"x-amz-meta-")
-}
-
-fn is_kept_header(name: &[u8]) -> bool
-    ensures { result ≡ is_kept_header name.now }
-{
-    name == b"cache-control".as_slice()
-        || name == b"content-disposition".as_slice()
-        || name == b"content-encoding".as_slice()
-        || name == b"content-language".as_slice()
-        || name == b"expires".as_slice()
 }
 
 fn is_given_meta_entry(name: &[u8]) -> bool

@@ -26,7 +26,7 @@ pub use items::{Asked, BucketItem, Item, ItemHead, PartItem, UploadItem, begins,
 pub use laws::{law_get_after_delete, law_get_after_put};
 pub use limits::{
     GREATEST_PART_NUMBER, MOST_BODY_BYTES, MOST_ITEMS, MOST_KEYS, MOST_PARTS, RANGE_LIMIT,
-    is_content_type, is_listing_text, is_meta_name, is_meta_value, is_proper_meta,
+    is_content_type, is_kept_header, is_listing_text, is_meta_name, is_meta_value, is_proper_meta,
 };
 pub use operation::{Label, Listed, ObjectHead, Op, Replaced, Reply, Settings};
 pub use reading::{Conditions, ETags, Judged, Range, Span, judge};

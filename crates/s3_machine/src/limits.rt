@@ -135,7 +135,8 @@ fn is_user_meta_name(name: &[u8]) -> bool
     }
 }
 
-fn is_kept_header(name: &[u8]) -> bool
+/// Whether it is the name, in lower case, of a header that is kept with an object beside its metadata. It takes no memory.
+pub fn is_kept_header(name: &[u8]) -> bool
     ensures { result ≡ is_kept_header name.now }
 {
     name == b"cache-control".as_slice()

@@ -1,12 +1,14 @@
-//! What bytes are as text: digits, hexadecimal digits in lower case, the numbers that digits write, numbers in decimal that
+//! What bytes are as text: blanks at the ends, digits, hexadecimal digits in lower case, the numbers that digits write, numbers in decimal that
 //! are read and written, and UTF-8.
 #![tactic(auto)]
 
+mod blanks;
 mod classes;
 mod digits;
 mod numbers;
 mod utf8;
 
+pub use blanks::without_blanks;
 pub use classes::{all_digits, all_lower_hex, is_digit, is_lower_hex};
 pub use digits::{digits_value, short_value};
 pub use numbers::{append_decimal, is_decimal_of, is_number, number_of};
