@@ -7,10 +7,11 @@ use Rattle.s3_names.specs.declared.acl.Acl.{Acl}
 use Rattle.s3_machine.specs.declared.operation.ObjectHead.{ObjectHead}
 use Rattle.s3_machine.specs.ETag.{body_etag}
 use Rattle.s3_machine.specs.Limits.{most_body_bytes}
+use Rattle.slo_manifest.specs.declared.Segment.{Segment}
 use Rattle.swift_calls.specs.declared.calls.SwiftRequest.{SwiftRequest}
 use Rattle.swift_calls.specs.declared.calls.SwiftRequest.TheVariants.{PutObject}
 use Rattle.swift_calls.specs.declared.calls.SwiftReply.{SwiftReply}
-use Rattle.swift_calls.specs.declared.calls.SwiftReply.TheVariants.{Made, Gone, Stored, NotFound, NotEmpty, Readers, Head, Bytes, Unsatisfiable}
+use Rattle.swift_calls.specs.declared.calls.SwiftReply.TheVariants.{Made, Gone, Stored, NotFound, NotEmpty, Readers, Head, Bytes, Manifest, Unsatisfiable}
 use Rattle.swift_calls.specs.declared.heads.StoredHead.{StoredHead}
 use Rattle.swift_marks.specs.declared.tag.Tag.{Tag}
 use Rattle.swift_marks.specs.Tag.{read_tag, tag_text}
@@ -124,3 +125,8 @@ plain_tag content_type etag moment = record { content_type = content_type; etag 
 -- the PUT of an object's file
 abbrev pub put_of : List ℕ → List ℕ → List ℕ → List Pair → List ℕ → ℕ → SwiftRequest
 put_of bucket key content_type meta body moment = PutObject bucket key (tag_text (plain_tag content_type (body_etag body) moment)) (pack_of meta) body
+
+-- GET of the list of a file's segments
+abbrev pub listed_due : SwiftReply → Result (List Segment) PlanFault
+listed_due (Manifest segments) = Ok segments
+listed_due _ = Err fault.Inconsistent

@@ -1,13 +1,14 @@
 //! What an answer of the store comes to.
 ghost use Rattle.std.specs.Prelude.{◌≡◌, ◌≢◌, Err, IfOk};
-ghost use Rattle.account_calls.specs.Interpret.{Gives, object_head_agrees_with_tag, object_head_agrees_parts, object_head_agrees_whole, bucket_due, bytes_due, dropped_due, gone_due, head_due, head_from, known, IsShownHead, made_due, set_due, stored_due};
+ghost use Rattle.account_calls.specs.Interpret.{Gives, object_head_agrees_with_tag, object_head_agrees_parts, object_head_agrees_whole, bucket_due, bytes_due, dropped_due, gone_due, head_due, head_from, known, IsShownHead, listed_due, made_due, set_due, stored_due};
 ghost use Rattle.swift_calls.specs.declared.calls.SwiftReply.TheVariants as answer;
 ghost use Rattle.account_calls.specs.declared.fault.PlanFault.TheVariants as fault;
 
 use crate::{Dropped, PlanFault};
-use gate_base::Bytes;
+use gate_base::{Bytes, List};
 use s3_machine::{MOST_BODY_BYTES, ObjectHead};
 use s3_names::Acl;
+use slo_manifest::Segment;
 use std::alloc::Global;
 use swift_calls::{StoredHead, SwiftReply};
 use swift_marks::{Tag, unpack};
@@ -192,6 +193,18 @@ pub(crate) fn interpret_bucket_post(reply: &SwiftReply) -> Result<bool, PlanFaul
     match reply {
         SwiftReply::Gone => Ok(true),
         SwiftReply::NotFound => Ok(false),
+        _ => Err(PlanFault::Inconsistent),
+    }
+}
+
+/// The answer to GET of the list of a file's segments (Object Storage API v1, "Static large objects"). Inconsistent where it is another
+/// one; never Failed.
+pub fn interpret_listed_segments(reply: SwiftReply) -> Result<List<Segment>, PlanFault>
+    ensures due { result ≡ listed_due reply }
+    ensures own { result ≢ Err fault.Failed }
+{
+    match reply {
+        SwiftReply::Manifest(segments) => Ok(segments),
         _ => Err(PlanFault::Inconsistent),
     }
 }

@@ -23,13 +23,13 @@ pub use bucket::{
 };
 pub use fault::PlanFault;
 pub use file_pages::{next_marker, settled_file_page};
-pub use interpret::{interpret_file_delete, interpret_put_with_etag};
+pub use interpret::{interpret_file_delete, interpret_listed_segments, interpret_put_with_etag};
 pub use keys::list_objects;
 pub use laws::{law_answered_fault_free, law_never_unavailable};
 pub use listing::{container_names, list_buckets};
 pub use object::{delete_object, get_object, head_object, put_object};
-pub use plans::{PlansOf, plans_of, reply_of, taken_text};
+pub use plans::{PlansOf, plans_of, reply_of, stored_end, taken_text};
 pub use puts::etag_of_put;
-pub use sealed::{interpret_sealed_get, object_request, sealed_segments};
+pub use sealed::{interpret_sealed_get, object_request, sealed_object_tag, sealed_segments};
 pub use state::{Known, Settled, ask};
 pub use sub_manifests::{sub_manifest_count, sub_manifest_request};

@@ -1,7 +1,8 @@
 //! Which operations have plans of their own, what a plan takes of its operation, and the reply by the end of the plan.
 ghost use Rattle.std.specs.Prelude.{◌≡◌};
+ghost use Rattle.s3_machine.specs.declared.operation.Reply.TheVariants.{Stored};
 ghost use Rattle.account_calls.specs.Answers.{facts_of};
-ghost use Rattle.account_calls.specs.Plan.{reply_of};
+ghost use Rattle.account_calls.specs.Plan.{ended, reply_of};
 
 use crate::PlanFault;
 use gate_base::Bytes;
@@ -57,6 +58,16 @@ pub fn reply_of(end: Result<Reply, PlanFault>) -> Reply
         Err(PlanFault::Failed) => Reply::Refused(Code::ServiceUnavailable),
         Err(PlanFault::Memory) => Reply::Memory,
         Err(PlanFault::Inconsistent) => Reply::Refused(Code::InconsistentStore),
+    }
+}
+
+/// The end of a plan whose last call put what has this ETag: the reply was made before it.
+pub fn stored_end(end: Result<(), PlanFault>, etag: Bytes) -> Result<Reply, PlanFault>
+    ensures { result ≡ ended end (λ done. Stored etag) }
+{
+    match end {
+        Ok(()) => Ok(Reply::Stored { etag }),
+        Err(fault) => Err(fault),
     }
 }
 

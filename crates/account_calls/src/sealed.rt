@@ -3,7 +3,7 @@ ghost use Rattle.std.specs.Prelude.{◌≡◌, ◌≢◌, ◌∷◌, ◌++◌, [
 ghost use Rattle.std.specs.List.{list_all};
 ghost use Rattle.s3_names.specs.Id.{id_digits};
 ghost use Rattle.swift_calls.specs.Step.{Fit};
-ghost use Rattle.swift_marks.specs.Tag.{tag_text};
+ghost use Rattle.swift_marks.specs.Tag.{has_text, tag_text};
 ghost use Rattle.upload_texts.specs.Sealed.{has_sealed_text, part_fits_sealed_text, read_sealed};
 ghost use Rattle.upload_records.specs.Native.{filled_parts, part_segment, part_segments, sealed_segments, sealed_tag};
 ghost use Rattle.account_calls.specs.Interpret.{Gives, known};
@@ -95,9 +95,9 @@ fn put_by_segments(
     }
 }
 
-/// The tag of a completed object, as its file has it.
-fn sealed_object_tag(alloc: Global, sealed: &Sealed) -> Result<Bytes, Memory>
-    requires { has_sealed_text sealed.now ≡ true }
+/// The tag of a completed object, or of a copy that is laid out like one, as its file has it. It asks for one that has a text.
+pub fn sealed_object_tag(alloc: Global, sealed: &Sealed) -> Result<Bytes, Memory>
+    requires { has_text (sealed_tag sealed.now) ≡ true }
     ensures { IfOk result (λ text. text ≡ tag_text (sealed_tag sealed.now)) }
 {
     let content_type = sealed.content_type.copy()?;

@@ -37,12 +37,13 @@ use Rattle.account_calls.specs.declared.fault.PlanFault.{PlanFault}
 use Rattle.account_calls.specs.declared.fault.PlanFault.TheVariants as plan
 use Rattle.account_calls.specs.Fault.{mark_fault}
 use Rattle.account_calls.specs.Calls.{always, Asks}
+use Rattle.account_calls.specs.Interpret.{listed_due}
 use Rattle.account_calls.specs.Listing.{TellsOf}
 use Rattle.account_calls.proofs.lemmas.Faults.{err_is}
 use Rattle.account_calls.proofs.lemmas.FilePages.{file_is_key}
 use Rattle.account_calls.proofs.lemmas.Idle.{grows_none}
 use Rattle.account_calls.proofs.lemmas.One.{IsReadingOf, not_asked}
-use Rattle.leftovers.specs.Gathering.{AreKnown, HasItem, HasListing, HasRecord, TellsListing, TellsOpen, listing_due, open_by, open_due, segments_at, sub_manifests_in}
+use Rattle.leftovers.specs.Gathering.{AreKnown, HasItem, HasListing, HasRecord, TellsListing, TellsOpen, open_by, open_due, segments_at, sub_manifests_in}
 use Rattle.leftovers.specs.Leftovers.{is_open, segments_in}
 use Rattle.leftovers.proofs.SubManifests.{list_known}
 
@@ -154,12 +155,12 @@ module _ (tree : SwiftAccount) (bucket : List ℕ) (item : NameItem) (is : is_bu
 
 -- ---- GET of a list
 
-pub listing_reads : {bucket key container name : List ℕ} → container ≡ bucket → name ≡ key → IsReadingOf (HasListing bucket key) (GetManifest container name) listing_due (TellsListing bucket key)
+pub listing_reads : {bucket key container name : List ℕ} → container ≡ bucket → name ≡ key → IsReadingOf (HasListing bucket key) (GetManifest container name) listed_due (TellsListing bucket key)
 listing_reads {bucket = bucket} {key = key} named under = record {
   leaves = λ tree. refl;
   tells = λ tree sound has reply replied. (
     has.listed,
-    ap listing_due (replied ∙ (λ i. manifest_reply (find_object tree (named i) (under i))) ∙ ap manifest_reply has.found ∙ ap (λ c. manifest_by (listed_in c)) has.lists),
+    ap listed_due (replied ∙ (λ i. manifest_reply (find_object tree (named i) (under i))) ∙ ap manifest_reply has.found ∙ ap (λ c. manifest_by (listed_in c)) has.lists),
     sym (ap segments_in has.found ∙ ap (λ c. unwrap_or (listed_in c) []) has.lists),
   );
 }

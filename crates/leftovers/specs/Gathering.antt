@@ -10,7 +10,7 @@ use Rattle.swift_calls.specs.Bodies.{item_of}
 use Rattle.swift_calls.specs.History.{History, present}
 use Rattle.swift_calls.specs.declared.account.Content.TheVariants.{Segments}
 use Rattle.swift_calls.specs.declared.calls.SwiftReply.{SwiftReply}
-use Rattle.swift_calls.specs.declared.calls.SwiftReply.TheVariants.{Bytes, Manifest}
+use Rattle.swift_calls.specs.declared.calls.SwiftReply.TheVariants.{Bytes}
 use Rattle.swift_calls.specs.declared.heads.NameItem.{NameItem}
 use Rattle.upload_texts.specs.Records.{read_record}
 use Rattle.upload_texts.specs.declared.record.Record.{Record}
@@ -176,8 +176,3 @@ open_by (Some told) = Ok (is_open (Some told))
 abbrev pub open_due : SwiftReply → Result Bool PlanFault
 open_due (Bytes head body) = open_by (read_record body)
 open_due _ = Err Inconsistent
-
--- GET of the list of an object's segments
-abbrev pub listing_due : SwiftReply → Result (List Segment) PlanFault
-listing_due (Manifest segments) = Ok segments
-listing_due _ = Err Inconsistent

@@ -15,12 +15,12 @@ ghost use Rattle.account_calls.specs.Interpret.{Gives};
 ghost use Rattle.account_calls.specs.Listing.{TellsOf};
 ghost use Rattle.account_calls.specs.Told.{LeavesThroughout};
 ghost use Rattle.account_calls.specs.declared.fault.PlanFault.TheVariants as fault;
-ghost use Rattle.leftovers.specs.Gathering.{calls_a_file, folder_of, gather_calls, listing_due, open_by, open_due, sub_manifests_in, AreKnown, HasItem, HasItems, HasListing, HasRecord, InBucket, IsKnown, PaysGathering, TellsAdded, TellsAll, TellsGathered, TellsInner, TellsListing, TellsNamed, TellsOpen};
+ghost use Rattle.leftovers.specs.Gathering.{calls_a_file, folder_of, gather_calls, open_by, open_due, sub_manifests_in, AreKnown, HasItem, HasItems, HasListing, HasRecord, InBucket, IsKnown, PaysGathering, TellsAdded, TellsAll, TellsGathered, TellsInner, TellsListing, TellsNamed, TellsOpen};
 ghost use Rattle.leftovers.specs.Leftovers.{is_named_in, is_open, is_sub_manifest_name};
 ghost use Rattle.leftovers.specs.declared.gathering.Source.TheVariants.{Objects, Records};
 
 use crate::files::file_page;
-use account_calls::{PlanFault, ask, next_marker};
+use account_calls::{PlanFault, ask, interpret_listed_segments, next_marker};
 use gate_base::{Bytes, Copying, List, Memory, drop};
 use name_table::Table;
 use s3_names::is_key;
@@ -166,17 +166,7 @@ fn get_listing<W: Swift>(
     let container = container.copy()?;
     let name = name.copy()?;
     let reply = ask(store, SwiftRequest::GetManifest { container, name })?;
-    listing_in_reply(reply)
-}
-
-fn listing_in_reply(reply: SwiftReply) -> Result<List<Segment>, PlanFault>
-    ensures due { result ≡ listing_due reply }
-    ensures own { result ≢ Err fault.Failed }
-{
-    match reply {
-        SwiftReply::Manifest(segments) => Ok(segments),
-        _ => Err(PlanFault::Inconsistent),
-    }
+    interpret_listed_segments(reply)
 }
 
 /// Adds the names of the segments of a list.

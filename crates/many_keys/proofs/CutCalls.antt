@@ -32,6 +32,7 @@ use Rattle.upload_records.specs.Native.{object_at, run, s3_state, sub_manifests,
 use Rattle.upload_records.proofs.lemmas.Subs.{outer_part}
 use Rattle.account_calls.specs.Answers.{listed_in, listed_twice}
 use Rattle.account_calls.specs.Calls.{always, Asks, Given, GivenOf, HasObject}
+use Rattle.account_calls.specs.Interpret.{listed_due}
 use Rattle.account_calls.specs.Listing.{TellsOf}
 use Rattle.account_calls.specs.declared.fault.PlanFault.{PlanFault}
 use Rattle.account_calls.specs.declared.fault.PlanFault.TheVariants as fault
@@ -53,7 +54,6 @@ use Rattle.many_keys.specs.CopiedLists.{
   is_cut,
   is_piece_to_copy,
   list_id,
-  listed_due,
   lists_subs,
   number_at,
   piece_bytes,

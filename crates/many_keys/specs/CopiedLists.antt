@@ -21,7 +21,7 @@ use Rattle.swift_calls.specs.Account.{SwiftObject, SwiftAccount, files, find_obj
 use Rattle.swift_calls.specs.Bodies.{etag_text, plain_bytes}
 use Rattle.swift_calls.specs.declared.account.Content.TheVariants.{Plain, Segments}
 use Rattle.swift_calls.specs.declared.calls.SwiftReply.{SwiftReply}
-use Rattle.swift_calls.specs.declared.calls.SwiftReply.TheVariants.{Bytes, Manifest}
+use Rattle.swift_calls.specs.declared.calls.SwiftReply.TheVariants.{Bytes}
 use Rattle.swift_marks.specs.Tag.{is_etag}
 use Rattle.upload_texts.specs.Sealed.{part_fits_sealed_text}
 use Rattle.upload_texts.specs.declared.sealed.Sealed.{Sealed}
@@ -105,11 +105,6 @@ is_cut size cut = nat_le 1 (length cut) && (nat_le (length cut) most_parts && (l
 abbrev pub cut_by : Bool → ℕ → List Piece → Result Cut PlanFault
 cut_by true id pieces = Ok (record { id = id; pieces = pieces })
 cut_by false id pieces = Err Inconsistent
-
--- GET of the list of the segments of a file
-abbrev pub listed_due : SwiftReply → Result (List Segment) PlanFault
-listed_due (Manifest segments) = Ok segments
-listed_due reply = Err Inconsistent
 
 -- the file of this name lists these segments
 pub record ListsSegments (folder name : List ℕ) (tree : SwiftAccount) (told : List Segment) : Type 0 where

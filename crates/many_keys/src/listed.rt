@@ -11,8 +11,7 @@ ghost use Rattle.s3_machine.specs.declared.operation.Op.TheVariants.{CopyObject}
 ghost use Rattle.s3_machine.specs.declared.operation.Replaced.{Replaced};
 ghost use Rattle.swift_calls.specs.History.{present};
 ghost use Rattle.swift_calls.specs.Step.{Fit};
-ghost use Rattle.swift_marks.specs.Tag.{tag_text};
-ghost use Rattle.upload_records.specs.Native.{sealed_sub_manifests, sealed_tag, sub_manifests};
+ghost use Rattle.upload_records.specs.Native.{sealed_sub_manifests, sub_manifests};
 ghost use Rattle.upload_texts.specs.Sealed.{has_sealed_text};
 ghost use Rattle.account_calls.specs.Answers.{listed_by, records_of, segments_of};
 ghost use Rattle.account_calls.specs.Calls.{always, by_account, Changes, Given, GivenOf};
@@ -31,13 +30,15 @@ use crate::manifests::get_pieces_to_copy;
 use crate::segments::copy_source_segments;
 use crate::source::content_of;
 use crate::sub_manifests::put_copied_sub_manifests;
-use account_calls::{PlanFault, Settled, etag_of_put, interpret_put_with_etag, object_request};
+use account_calls::{
+    PlanFault, Settled, etag_of_put, interpret_put_with_etag, object_request, sealed_object_tag,
+};
 use gate_base::{Bytes, Copying, List, Memory, drop};
 use s3_machine::{Label, ObjectHead, Replaced, Reply};
 use s3_names::Acl;
 use std::alloc::Global;
 use swift_calls::{Swift, SwiftRequest};
-use swift_marks::{Tag, pack};
+use swift_marks::pack;
 use upload_calls::free_id;
 use upload_records::law_unused_is_abandoned;
 use upload_texts::{Sealed, SealedPart};
@@ -367,7 +368,7 @@ fn empty_copy_file_request(alloc: Global, sealed: &Sealed) -> Result<SwiftReques
     ensures request { IfOk result (λ request. request ≡ put_object_of sealed.now) }
     ensures fits { IfOk result Fit }
 {
-    let content_type = tag_of_copy_file(alloc, sealed)?;
+    let content_type = sealed_object_tag(alloc, sealed)?;
     let meta = pack(alloc, &sealed.meta)?;
     let container = sealed.bucket.copy()?;
     let name = sealed.key.copy()?;
@@ -378,20 +379,4 @@ fn empty_copy_file_request(alloc: Global, sealed: &Sealed) -> Result<SwiftReques
         meta,
         body: Bytes::new(alloc),
     })
-}
-
-/// The tag of the copy, as its file has it.
-fn tag_of_copy_file(alloc: Global, sealed: &Sealed) -> Result<Bytes, Memory>
-    requires { IsCopy sealed.now }
-    ensures { IfOk result (λ text. text ≡ tag_text (sealed_tag sealed.now)) }
-{
-    let content_type = sealed.content_type.copy()?;
-    let etag = sealed.etag.copy()?;
-    let tag = Tag {
-        content_type,
-        etag,
-        moment: sealed.moment,
-        id: Some(sealed.id),
-    };
-    tag.write(alloc)
 }

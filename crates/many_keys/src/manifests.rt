@@ -1,5 +1,5 @@
 //! The lists of the segments of an object that was completed from parts, read one after another.
-ghost use Rattle.std.specs.Prelude.{◌≡◌, ◌≢◌, ◌<◌, ◌≤◌, ◌+◌, ℕ, List, true, length, IfOk, Err};
+ghost use Rattle.std.specs.Prelude.{◌≡◌, ◌<◌, ◌≤◌, ◌+◌, ℕ, List, true, length, IfOk};
 ghost use Rattle.s3_names.specs.Bucket.{is_bucket};
 ghost use Rattle.s3_machine.specs.Step.{IsPlace};
 ghost use Rattle.swift_calls.specs.History.{present};
@@ -10,18 +10,17 @@ ghost use Rattle.s3_names.specs.Id.{id_digits};
 ghost use Rattle.account_calls.specs.Calls.{always, by_account, Asks, Given, GivenOf, HasObject};
 ghost use Rattle.account_calls.specs.Lent.{Stays};
 ghost use Rattle.account_calls.specs.Listing.{TellsOf};
-ghost use Rattle.account_calls.specs.declared.fault.PlanFault.TheVariants as fault;
-ghost use Rattle.many_keys.specs.CopiedLists.{HasListed, HasSubs, ListsSegments, TellsCut, TellsRuns, TellsSub, is_cut, listed_due, lists_subs, subs_in, subs_listed};
+ghost use Rattle.many_keys.specs.CopiedLists.{HasListed, HasSubs, ListsSegments, TellsCut, TellsRuns, TellsSub, is_cut, lists_subs, subs_in, subs_listed};
 
 use crate::cut::{
     Cut, Piece, add_pieces, cut_of_list, id_of_list, lists_sub_manifests, proper_cut,
 };
-use account_calls::{PlanFault, Settled};
+use account_calls::{PlanFault, Settled, interpret_listed_segments};
 use gate_base::{Bytes, Copying, List, Memory};
 use s3_machine::ObjectHead;
 use slo_manifest::Segment;
 use std::alloc::Global;
-use swift_calls::{Swift, SwiftReply, SwiftRequest};
+use swift_calls::{Swift, SwiftRequest};
 use upload_records::{law_listing_found, law_object_listed, segments_container, sub_manifest_name};
 
 /// The most sub-manifests that an object lists.
@@ -72,18 +71,7 @@ fn get_listed_segments<W: Swift>(
     let container = bucket.copy()?;
     let name = key.copy()?;
     let reply = state.call(SwiftRequest::GetManifest { container, name })?;
-    listed_in_reply(reply)
-}
-
-/// The answer to GET of a list of segments.
-fn listed_in_reply(reply: SwiftReply) -> Result<List<Segment>, PlanFault>
-    ensures due { result ≡ listed_due reply }
-    ensures own { result ≢ Err fault.Failed }
-{
-    match reply {
-        SwiftReply::Manifest(segments) => Ok(segments),
-        _ => Err(PlanFault::Inconsistent),
-    }
+    interpret_listed_segments(reply)
 }
 
 /// The pieces of an object of so many bytes whose file lists these segments.
@@ -172,7 +160,7 @@ fn get_sub_manifest<W: Swift>(
 {
     let request = sub_manifest_list_request(alloc, bucket, id, n)?;
     let reply = state.call(request)?;
-    listed_in_reply(reply)
+    interpret_listed_segments(reply)
 }
 
 /// The GET of the list of that sub-manifest.

@@ -1,6 +1,5 @@
 //! An object as the columns of a row.
-ghost use Rattle.std.specs.Prelude.{◌≡◌, ◌<◌, ◌^◌, ◌&&◌, [], IfOk, bytes_eq, nat_eq, nat_lt, sum_by};
-ghost use Rattle.swift_calls.specs.Account.{size_of};
+ghost use Rattle.std.specs.Prelude.{◌≡◌, ◌<◌, ◌&&◌, [], IfOk, bytes_eq, nat_eq, nat_lt, sum_by};
 ghost use Rattle.swift_calls.specs.Bodies.{etag_of, etag_text};
 ghost use Rattle.object_rows.specs.Rows.{kind_of, body_of, has_columns, HasRow, IsRowContent, ReadsColumns, ReadsContent, ReadsList, ReadsRow, row_of};
 ghost use Rattle.object_rows.specs.declared.row.RowFault.TheVariants as faults;
@@ -89,7 +88,7 @@ pub fn row_with_etag(alloc: Global, object: &Stored, etag: Bytes) -> Result<Row,
         kind: kind_of(&object.content),
         content_type: object.content_type.copy()?,
         meta: joined(alloc, object.meta.as_slice())?,
-        size: size_of(&object.content),
+        size: object.content.size(),
         hash: etag,
         body: body_of(alloc, &object.content)?,
     })
@@ -101,17 +100,6 @@ fn kind_of(content: &Content) -> u64
     match content {
         Content::Plain(_) => PLAIN,
         Content::Segments(_) => LIST,
-    }
-}
-
-/// The size of an object in bytes.
-fn size_of(content: &Content) -> u64
-    requires { size_of content.now < 2 ^ 63 }
-    ensures { result ≡ size_of content.now }
-{
-    match content {
-        Content::Plain(bytes) => bytes.len() as u64,
-        Content::Segments(segments) => segments.as_slice().iter().map(|s| s.size).sum(),
     }
 }
 
@@ -199,7 +187,7 @@ fn has_columns(alloc: Global, object: &Stored, meta: &[u8], size: u64) -> Result
     ensures { IfOk result (λ has. has ≡ has_columns object.now meta.now size) }
 {
     let text = joined(alloc, object.meta.as_slice())?;
-    Ok(text.as_slice() == meta && size_of(&object.content) == size)
+    Ok(text.as_slice() == meta && object.content.size() == size)
 }
 
 /// What the body of a row stands for, if the row is one of an object.

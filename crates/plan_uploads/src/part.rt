@@ -6,20 +6,19 @@ ghost use Rattle.s3_machine.specs.ETag.{body_etag};
 ghost use Rattle.s3_machine.specs.Limits.{most_body_bytes};
 ghost use Rattle.s3_machine.specs.Uploads.{IsPartNumber};
 ghost use Rattle.s3_machine.specs.declared.operation.Op.TheVariants.{UploadPart};
-ghost use Rattle.s3_machine.specs.declared.operation.Reply.TheVariants.{Stored};
 ghost use Rattle.account_calls.specs.Calls.{always, Any, Given, GivenOf};
 ghost use Rattle.account_calls.specs.Lent.{Stays};
 ghost use Rattle.account_calls.specs.declared.state.Known.TheVariants as known;
 ghost use Rattle.account_calls.specs.Refusals.{Stops, Unrefused};
 ghost use Rattle.account_calls.specs.Shows.{alone};
-ghost use Rattle.account_calls.specs.Plan.{ended, Plans};
+ghost use Rattle.account_calls.specs.Plan.{Plans};
 ghost use Rattle.account_calls.specs.Puts.{EnsuresIfDone, StandsIn};
 ghost use Rattle.upload_calls.specs.Found.{IsOpenUpload};
 ghost use Rattle.upload_calls.specs.Interpret.{put_part_of};
 ghost use Rattle.upload_calls.specs.Records.{StandsPart};
 ghost use Rattle.plan_uploads.specs.Replies.{AnswersUpload};
 
-use account_calls::{PlanFault, Settled};
+use account_calls::{PlanFault, Settled, stored_end};
 use gate_base::Bytes;
 use s3_machine::{Body, Code, Label, Reply};
 use std::alloc::Global;
@@ -123,18 +122,8 @@ fn plan_upload_part_bytes<W: Swift>(
     ensures kind { AnswersUpload result }
 {
     let text = Bytes::from_slice(alloc, etag)?;
-    end_upload_part_plan(
+    stored_end(
         put_part(alloc, state, bucket, id, number, body, etag, label.moment),
         text,
     )
-}
-
-/// The end of UploadPart after its last call.
-fn end_upload_part_plan(end: Result<(), PlanFault>, etag: Bytes) -> Result<Reply, PlanFault>
-    ensures { result ≡ ended end (λ done. Stored etag) }
-{
-    match end {
-        Ok(()) => Ok(Reply::Stored { etag }),
-        Err(fault) => Err(fault),
-    }
 }

@@ -6,7 +6,7 @@ ghost use Rattle.s3_machine.specs.ETag.{body_etag};
 ghost use Rattle.s3_machine.specs.Step.{IsPlace, IsProperContent, is_other_acl};
 ghost use Rattle.s3_machine.specs.declared.operation.Label.{Label};
 ghost use Rattle.s3_machine.specs.declared.operation.Op.TheVariants.{PutObject, HeadObject, DeleteObject};
-ghost use Rattle.s3_machine.specs.declared.operation.Reply.TheVariants.{Gone, Stored};
+ghost use Rattle.s3_machine.specs.declared.operation.Reply.TheVariants.{Gone};
 ghost use Rattle.account_calls.specs.Calls.{always, Any, Given, TellsBucket};
 ghost use Rattle.account_calls.specs.Interpret.{IsShownHead, put_of};
 ghost use Rattle.account_calls.specs.Lent.{Stays};
@@ -18,7 +18,7 @@ ghost use Rattle.account_calls.specs.Puts.{EnsuresIfDone, StandsIn};
 ghost use Rattle.planner.specs.Objects.{headed_reply};
 ghost use Rattle.planner.specs.Reading.{GivesNoByte};
 
-use account_calls::{PlanFault, Settled, head_bucket};
+use account_calls::{PlanFault, Settled, head_bucket, stored_end};
 use gate_base::Bytes;
 use s3_machine::{
     Body, Code, Conditions, Judged, Label, ObjectHead, Range, Reply, is_other_acl, judge, may_read,
@@ -146,7 +146,7 @@ fn plan_put_object_bytes<W: Swift>(
     ensures bodiless { IfOk result GivesNoByte }
 {
     let text = Bytes::from_slice(alloc, etag)?;
-    end_put_object_plan(
+    stored_end(
         account_calls::put_object(
             alloc,
             state,
@@ -160,16 +160,6 @@ fn plan_put_object_bytes<W: Swift>(
         ),
         text,
     )
-}
-
-/// The end of PutObject after its last call.
-fn end_put_object_plan(end: Result<(), PlanFault>, etag: Bytes) -> Result<Reply, PlanFault>
-    ensures { result ≡ ended end (λ done. Stored etag) }
-{
-    match end {
-        Ok(()) => Ok(Reply::Stored { etag }),
-        Err(fault) => Err(fault),
-    }
 }
 
 /// HeadObject: HEAD of the bucket's container, then HEAD of the object's file. At most two calls, none of which commits.

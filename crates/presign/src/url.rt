@@ -1,5 +1,5 @@
 //! Presigned URLs.
-ghost use Rattle.std.specs.Prelude.{◌≡◌, ◌≤◌, ◌<◌, ◌++◌, ◌∷◌, [], true, false, IfOk, OnOk, codes, decimal};
+ghost use Rattle.std.specs.Prelude.{◌≡◌, ◌≤◌, ◌<◌, ◌++◌, ◌∷◌, [], true, false, IfOk, OnOk, codes};
 ghost use Rattle.hex.specs.Hex.{encode_lower};
 ghost use Rattle.gate_base.specs.declared.outside.TheConstants.{MOMENT_LIMIT as moment_limit};
 ghost use Rattle.http_wire.specs.Headers.{has_single_header as has_one_header};
@@ -15,10 +15,10 @@ use crate::time::presigned_time_at;
 use crate::verdict::signed_text;
 use gate_base::{Bytes, Copying, List, Memory, Pair};
 use http_wire::Message;
-use itoa::Buffer;
 use s3_names::{Target, encode_path};
 use sigv4::{canonical_query, date_of, sign};
 use std::alloc::Global;
+use text_forms::decimal_text;
 
 /// Whether the query has one of the six names of a signature. It takes no memory.
 pub fn has_signature_name(target: &Target) -> bool
@@ -135,17 +135,10 @@ fn add_parameters(
     ensures { OnOk result
         (pairs.new ≡ pairs.old ++ with_credential credential.now time.now expires) }
 {
-    let seconds = expiry_seconds_text(alloc, expires)?;
+    let seconds = decimal_text(alloc, expires)?;
     add_credential_parameters(alloc, pairs, credential, time)?;
     add_span_parameters(alloc, pairs, seconds.as_slice())?;
     Ok(())
-}
-
-fn expiry_seconds_text(alloc: Global, expires: u64) -> Result<Bytes, Memory>
-    ensures { IfOk result (λ text. text ≡ decimal expires) }
-{
-    let mut buffer = Buffer::new();
-    Bytes::from_slice(alloc, buffer.format(expires).as_bytes())
 }
 
 fn add_credential_parameters(

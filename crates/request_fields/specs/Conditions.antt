@@ -2,22 +2,19 @@
 -- 13.1.4 (If-Match, If-None-Match, If-Modified-Since, If-Unmodified-Since) and 5.6.7 (dates); Amazon S3 API Reference, "CopyObject"
 -- and "UploadPartCopy"; that tags stand with quotes or without them, and are compared without the `W/` of a weak one, is this
 -- profile's.
-use Rattle.std.specs.Prelude.{ℕ, Bool, ◌&&◌, ◌==◌, ◌-◌, nat_eq, nat_le, if◌then◌else◌, List, map, take, drop, length, slice_get, codes, bytes_eq, Option, false}
+use Rattle.std.specs.Prelude.{ℕ, Bool, ◌==◌, ◌-◌, nat_eq, if◌then◌else◌, List, map, take, drop, length, codes, bytes_eq, Option}
 use Rattle.std.specs.List.{prefix_len, suffix_len, slice_split, starts_with}
-use Rattle.std.specs.Option.{option_map_or}
 use Rattle.httpdate.specs.Date.{parse_secs}
 use Rattle.gate_base.specs.declared.page.Pair.{Pair}
 use Rattle.http_wire.specs.Closing.{is_comma}
 use Rattle.http_wire.specs.Headers.{has_header, text_of}
+use Rattle.text_forms.specs.Quotes.{without_quotes}
 use Rattle.s3_machine.specs.declared.reading.ETags.{ETags}
 use Rattle.s3_machine.specs.declared.reading.ETags.TheVariants.{Absent, Any, Listed}
 use Rattle.s3_machine.specs.declared.reading.Conditions.{Conditions}
 
 abbrev pub is_condition_space : ℕ → Bool
 is_condition_space byte = byte == 32
-
-abbrev pub is_quote : ℕ → Bool
-is_quote byte = byte == 34
 
 -- the text without the spaces at its start, and without those at its end
 abbrev pub behind_spaces : List ℕ → List ℕ
@@ -29,14 +26,6 @@ before_spaces text = take (length text - suffix_len is_condition_space text) tex
 -- the text without the `W/` of a weak tag
 abbrev pub without_weak : List ℕ → List ℕ
 without_weak text = if starts_with nat_eq text (codes "W/") then drop 2 text else text
-
--- a double quote at both ends, which aren't the same
-abbrev pub is_quoted : List ℕ → Bool
-is_quoted text = nat_le 2 (length text) && starts_with nat_eq text (codes "\"") && option_map_or is_quote (slice_get text (length text - 1)) false
-
--- the text between the quotes, where there are any
-abbrev pub without_quotes : List ℕ → List ℕ
-without_quotes text = if is_quoted text then drop 1 (take (length text - 1) text) else text
 
 -- the tag that stands between two commas
 unfoldable pub etag_of : List ℕ → List ℕ

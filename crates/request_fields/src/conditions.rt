@@ -1,15 +1,15 @@
 //! The conditions of a GET or a HEAD, and those of a copy on its source.
-ghost use Rattle.std.specs.Prelude.{◌≡◌, ◌-◌, ◌≤◌, ◌<◌, ◌++◌, [], ◌∷◌, false, map, drop, length, position, slice_get, IfOk, IfSome, OnOk};
+ghost use Rattle.std.specs.Prelude.{◌≡◌, ◌-◌, ◌≤◌, ◌<◌, ◌++◌, [], ◌∷◌, map, drop, length, position, IfOk, IfSome, OnOk};
 ghost use Rattle.std.specs.List.{prefix_len, suffix_len, slice_split};
-ghost use Rattle.std.specs.Option.{option_map_or};
 ghost use Rattle.http_wire.specs.Closing.{is_comma};
-ghost use Rattle.request_fields.specs.Conditions.{is_condition_space, is_quote, behind_spaces, before_spaces, without_weak, is_quoted, without_quotes, etag_of, etags_of, given_etags, date_of, given_date, conditions_named, given_conditions, given_source_conditions};
+ghost use Rattle.request_fields.specs.Conditions.{is_condition_space, behind_spaces, before_spaces, without_weak, etag_of, etags_of, given_etags, date_of, given_date, conditions_named, given_conditions, given_source_conditions};
 
 use gate_base::{Bytes, List, Memory, Pair};
 use http_wire::{has_header, text_of};
 use httpdate::HttpDate;
 use s3_machine::{Conditions, ETags};
 use std::alloc::Global;
+use text_forms::without_quotes;
 
 fn is_condition_space(byte: u8) -> bool
     ensures { result ≡ is_condition_space byte }
@@ -54,31 +54,6 @@ fn without_weak(text: &[u8]) -> &[u8]
 {
     if text.starts_with(b"W/") {
         &text[2..]
-    } else {
-        text
-    }
-}
-
-fn ends_quoted(text: &[u8]) -> bool
-    ensures { result ≡ option_map_or is_quote (slice_get text.now (length text.now - 1)) false }
-{
-    match text.last() {
-        Some(byte) => *byte == b'"',
-        None => false,
-    }
-}
-
-fn is_quoted(text: &[u8]) -> bool
-    ensures { result ≡ is_quoted text.now }
-{
-    2 <= text.len() && text.starts_with(b"\"") && ends_quoted(text)
-}
-
-fn without_quotes(text: &[u8]) -> &[u8]
-    ensures { result.now ≡ without_quotes text.now }
-{
-    if is_quoted(text) {
-        &text[1..text.len() - 1]
     } else {
         text
     }

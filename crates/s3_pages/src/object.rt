@@ -9,7 +9,7 @@ use crate::texts;
 use gate_base::{Bytes, List, Memory, Page, Pair};
 use s3_machine::{Label, ObjectHead};
 use std::alloc::Global;
-use text_forms::append_decimal;
+use text_forms::{append_decimal, decimal_text};
 
 /// The page of an object, or of a part of it.
 pub(crate) fn object_reply_page(
@@ -51,7 +51,7 @@ fn object_headers(
     add_object_page_headers(alloc, &mut headers, head)?;
     add_metadata_page_headers(alloc, &mut headers, head.meta.pairs())?;
     add_range_page_header(alloc, &mut headers, partial, from, length, head.size)?;
-    let number = texts::decimal_page_text(alloc, length)?;
+    let number = decimal_text(alloc, length)?;
     add_header(alloc, &mut headers, b"Content-Length", number.as_slice())?;
     Ok(headers)
 }

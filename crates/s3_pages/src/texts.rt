@@ -1,5 +1,5 @@
 //! Texts of numbers and moments.
-ghost use Rattle.std.specs.Prelude.{◌≡◌, ◌<◌, decimal, IfOk};
+ghost use Rattle.std.specs.Prelude.{◌≡◌, ◌<◌, IfOk};
 ghost use Rattle.gate_base.specs.Told.{moment_limit};
 ghost use Rattle.httpdate.specs.Date.{date_text};
 ghost use Rattle.httpdate.specs.declared.date.HttpDate.{HttpDate as Date};
@@ -8,7 +8,6 @@ ghost use Rattle.s3_pages.specs.Texts.{id_text, quoted};
 
 use gate_base::{Bytes, Memory};
 use httpdate::HttpDate;
-use itoa::Buffer;
 use std::alloc::Global;
 
 /// A request id in 32 hexadecimal digits, in lower case (this profile).
@@ -103,12 +102,4 @@ pub fn quoted(alloc: Global, etag: &[u8]) -> Result<Bytes, Memory>
     text.append(etag)?;
     text.append(b"\"")?;
     Ok(text)
-}
-
-/// A number in decimal.
-pub fn decimal_page_text(alloc: Global, number: u64) -> Result<Bytes, Memory>
-    ensures { IfOk result (λ text. text ≡ decimal number) }
-{
-    let mut buffer = Buffer::new();
-    Bytes::from_slice(alloc, buffer.format(number).as_bytes())
 }

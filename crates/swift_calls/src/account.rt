@@ -1,4 +1,5 @@
-ghost use Rattle.std.specs.Prelude.{◌≡◌};
+ghost use Rattle.std.specs.Prelude.{◌≡◌, ◌<◌, ◌^◌};
+ghost use Rattle.swift_calls.specs.Account.{size_of};
 
 use gate_base::{Bytes, Copying, List, Memory, Named};
 use slo_manifest::Segment;
@@ -23,6 +24,19 @@ impl Copying for ReadList {
 pub enum Content {
     Plain(Bytes),
     Segments(List<Segment>),
+}
+
+impl Content {
+    /// The size in bytes: of its own bytes, or the sum of its segments'.
+    pub fn size(&self) -> u64
+        requires { size_of self.now < 2 ^ 63 }
+        ensures { result ≡ size_of self.now }
+    {
+        match self {
+            Content::Plain(bytes) => bytes.len() as u64,
+            Content::Segments(segments) => segments.as_slice().iter().map(|s| s.size).sum(),
+        }
+    }
 }
 
 impl Copying for Content {

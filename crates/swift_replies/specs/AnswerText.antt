@@ -137,10 +137,12 @@ refusal status = sent_text (bare status)
 
 -- ---- containers
 
+-- the value that writes a read list
 abbrev pub readers_text : ReadList → List ℕ
 readers_text Nobody = []
 readers_text Everybody = everybody
 
+-- the creation time of a container as its own header, where it has one
 abbrev pub created_fields : Option ℕ → List Field
 created_fields None = []
 created_fields (Some moment) = (codes "X-Container-Meta-S3-Created", decimal moment) ∷ []

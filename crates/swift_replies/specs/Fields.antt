@@ -8,22 +8,17 @@ use Rattle.std.specs.Prelude.{
   ◌&&◌,
   ◌==◌,
   nat_lt,
-  nat_le,
   if◌then◌else◌,
   ◌+◌,
-  ◌-◌,
   suc,
   zero,
   List,
   [],
   ◌∷◌,
   ◌++◌,
-  length,
   codes,
   decimal,
   bytes_eq,
-  slice_index,
-  slice_range,
   Option,
   Some,
   None,
@@ -38,6 +33,7 @@ use Rattle.http_wire.specs.Headers.{has_header}
 use Rattle.swift_calls.specs.declared.account.ReadList.{ReadList}
 use Rattle.swift_calls.specs.declared.account.ReadList.TheVariants.{Nobody, Everybody}
 use Rattle.swift_calls.specs.declared.heads.StoredHead.{StoredHead}
+use Rattle.text_forms.specs.Quotes.{without_quotes}
 use Rattle.http_answers.specs.Fields.{field, only, plain_number}
 
 -- ---- containers
@@ -83,17 +79,9 @@ is_reply_etag_byte b = nat_lt 32 b && (not (b == 34) && not (b == 127))
 abbrev pub tag_only : List ℕ → Option (List ℕ)
 tag_only text = if list_all is_reply_etag_byte text then Some text else None
 
--- the text has a double quote at each end
-abbrev pub is_quoted : List ℕ → Bool
-is_quoted text = nat_le 2 (length text) && (slice_index text 0 == 34 && slice_index text (length text - 1) == 34)
-
--- the text without its quotes, if it has them
-abbrev pub unquoted : List ℕ → List ℕ
-unquoted text = if is_quoted text then slice_range text 1 (length text - 1) else text
-
 -- an ETag in quotes or without them
 abbrev pub tag_in : List ℕ → Option (List ℕ)
-tag_in value = tag_only (unquoted value)
+tag_in value = tag_only (without_quotes value)
 
 abbrev pub etag_in : List Pair → Option (List ℕ)
 etag_in headers = option_and_then tag_in (only (codes "etag") headers)

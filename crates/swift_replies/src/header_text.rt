@@ -83,13 +83,9 @@ fn swift_error_phrase(status: u16) -> &'static [u8]
     }
 }
 
-/// Adds a header.
+/// Adds a header (RFC 9112, section 5). Where memory runs out, the text may have a part of it; so with each of these.
 #[tactic(auto, using(crate::proofs::SentLemmas::header_is))]
-pub(crate) fn append_answer_header(
-    text: &mut Bytes,
-    name: &[u8],
-    value: &[u8],
-) -> Result<(), Memory>
+pub fn append_swift_header(text: &mut Bytes, name: &[u8], value: &[u8]) -> Result<(), Memory>
     ensures { OnOk result (text.new ≡ text.old ++ print_header (name.now, value.now)) }
 {
     text.append(name)?;
@@ -100,11 +96,7 @@ pub(crate) fn append_answer_header(
 
 /// Adds a header whose value is a number.
 #[tactic(auto, using(crate::proofs::SentLemmas::header_is))]
-pub(crate) fn append_answer_number_header(
-    text: &mut Bytes,
-    name: &[u8],
-    number: u64,
-) -> Result<(), Memory>
+pub fn append_swift_number_header(text: &mut Bytes, name: &[u8], number: u64) -> Result<(), Memory>
     ensures { OnOk result (text.new ≡ text.old ++ print_header (name.now, decimal number)) }
 {
     text.append(name)?;
@@ -114,12 +106,12 @@ pub(crate) fn append_answer_number_header(
 }
 
 /// Adds the creation time, where there is one.
-pub(crate) fn append_answer_created(text: &mut Bytes, created: Option<u64>) -> Result<(), Memory>
+pub fn append_swift_created(text: &mut Bytes, created: Option<u64>) -> Result<(), Memory>
     ensures { OnOk result (text.new ≡ text.old ++ print_headers (created_fields created)) }
 {
     match created {
         Some(moment) => {
-            append_answer_number_header(text, b"X-Container-Meta-S3-Created", moment)?;
+            append_swift_number_header(text, b"X-Container-Meta-S3-Created", moment)?;
             Ok(())
         }
         None => Ok(()),
@@ -127,18 +119,18 @@ pub(crate) fn append_answer_created(text: &mut Bytes, created: Option<u64>) -> R
 }
 
 /// Adds the pieces of metadata, each under its number.
-pub(crate) fn append_answer_meta(text: &mut Bytes, pieces: &[Bytes]) -> Result<(), Memory>
+pub fn append_swift_meta(text: &mut Bytes, pieces: &[Bytes]) -> Result<(), Memory>
     ensures { OnOk result (text.new ≡ text.old ++ print_headers (meta_fields 0 pieces.now)) }
 {
     for (index, piece) in pieces.iter().enumerate() {
-        append_answer_meta_header(text, index as u64, piece.as_slice())?;
+        append_swift_meta_header(text, index as u64, piece.as_slice())?;
     }
     Ok(())
 }
 
 /// Adds the piece of metadata of a number.
 #[tactic(auto, using(crate::proofs::SentLemmas::piece_is))]
-fn append_answer_meta_header(text: &mut Bytes, index: u64, piece: &[u8]) -> Result<(), Memory>
+fn append_swift_meta_header(text: &mut Bytes, index: u64, piece: &[u8]) -> Result<(), Memory>
     ensures { OnOk result (text.new ≡ text.old
         ++ print_header (codes "X-Object-Meta-S3-" ++ decimal index, piece.now)) }
 {
@@ -150,7 +142,7 @@ fn append_answer_meta_header(text: &mut Bytes, index: u64, piece: &[u8]) -> Resu
 }
 
 /// The value that writes a read list.
-pub(crate) fn readers_text(readers: ReadList) -> &'static [u8]
+pub fn readers_text(readers: ReadList) -> &'static [u8]
     ensures { result.now ≡ readers_text readers }
 {
     match readers {

@@ -18,6 +18,10 @@ pub use answer_laws::{law_one_answer, law_one_reply, law_reads_back};
 pub use answers::read_answer;
 pub use fault::WireFault;
 pub use fields::{container_created_in, container_readers_by_value, meta_in};
+pub use header_text::{
+    append_swift_created, append_swift_header, append_swift_meta, append_swift_number_header,
+    readers_text,
+};
 pub use manifests::spelled_segments_in;
 pub use parted::read_parted_answer;
 pub use written::{refusal, write_answer};

@@ -2,12 +2,13 @@
 ghost use Rattle.std.specs.Prelude.{◌≡◌, Some};
 ghost use Rattle.std.specs.List.{list_all};
 ghost use Rattle.std.specs.Option.{option_copied};
-ghost use Rattle.swift_replies.specs.Fields.{reply_readers_in, is_reply_etag_byte, is_quoted, unquoted, tag_in, etag_in, manifest_from, reply_manifest_flag_in, reply_segments_flag_in, size_behind, whole_size_in};
+ghost use Rattle.swift_replies.specs.Fields.{reply_readers_in, is_reply_etag_byte, tag_in, etag_in, manifest_from, reply_manifest_flag_in, reply_segments_flag_in, size_behind, whole_size_in};
 
 use crate::fields::container_readers_by_value;
 use gate_base::{Pair, cut};
 use http_answers::{field, only, plain_number};
 use swift_calls::ReadList;
+use text_forms::without_quotes;
 
 /// The read list: nobody without the header.
 pub(crate) fn reply_readers_in(headers: &[Pair]) -> Option<ReadList>
@@ -30,24 +31,8 @@ pub(crate) fn etag_in(headers: &[Pair]) -> Option<&[u8]>
 fn tag_in(value: &[u8]) -> Option<&[u8]>
     ensures { option_copied result ≡ tag_in value.now }
 {
-    let text = unquoted(value);
+    let text = without_quotes(value);
     if is_tag(text) { Some(text) } else { None }
-}
-
-fn unquoted(text: &[u8]) -> &[u8]
-    ensures { result.now ≡ unquoted text.now }
-{
-    if is_quoted(text) {
-        &text[1..text.len() - 1]
-    } else {
-        text
-    }
-}
-
-fn is_quoted(text: &[u8]) -> bool
-    ensures { result ≡ is_quoted text.now }
-{
-    2 <= text.len() && (text[0] == b'"' && text[text.len() - 1] == b'"')
 }
 
 /// Whether the bytes are those that an entity tag has between its quotes.

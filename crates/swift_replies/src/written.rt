@@ -7,8 +7,8 @@ ghost use Rattle.swift_replies.specs.AnswerText.{answer_text, text_by, refusal, 
 
 use crate::answers::is_part;
 use crate::header_text::{
-    append_answer_created, append_answer_header, append_answer_meta, append_answer_number_header,
-    append_answer_status, readers_text,
+    append_answer_status, append_swift_created, append_swift_header, append_swift_meta,
+    append_swift_number_header, readers_text,
 };
 use crate::list_text::{containers_text, items_text};
 use crate::values::is_tag;
@@ -192,7 +192,7 @@ fn begin_answer(alloc: Global, status: u16, size: u64, room: usize) -> Result<By
 fn append_answer_length(text: &mut Bytes, size: u64) -> Result<(), Memory>
     ensures { OnOk result (text.new ≡ text.old ++ print_headers (length_field size ∷ [])) }
 {
-    append_answer_number_header(text, b"Content-Length", size)?;
+    append_swift_number_header(text, b"Content-Length", size)?;
     Ok(())
 }
 
@@ -240,8 +240,8 @@ fn readers_answer(alloc: Global, readers: ReadList, created: Option<u64>) -> Res
         return refusal(alloc, 500);
     }
     let mut text = begin_answer(alloc, 204, 0, 0)?;
-    append_answer_header(&mut text, b"X-Container-Read", readers_text(readers))?;
-    append_answer_created(&mut text, created)?;
+    append_swift_header(&mut text, b"X-Container-Read", readers_text(readers))?;
+    append_swift_created(&mut text, created)?;
     append_answer_body(&mut text, b"")?;
     Ok(text)
 }
@@ -254,7 +254,7 @@ fn stored_answer(alloc: Global, etag: &[u8]) -> Result<Bytes, Memory>
         return refusal(alloc, 500);
     }
     let mut text = begin_answer(alloc, 201, 0, 0)?;
-    append_answer_header(&mut text, b"Etag", etag)?;
+    append_swift_header(&mut text, b"Etag", etag)?;
     let answer = head_limited_answer(alloc, text, b"")?;
     Ok(answer)
 }
@@ -302,10 +302,10 @@ fn is_head(head: &StoredHead) -> bool
 fn append_answer_object_headers(text: &mut Bytes, head: &StoredHead) -> Result<(), Memory>
     ensures { OnOk result (text.new ≡ text.old ++ print_headers (object_fields head.now)) }
 {
-    append_answer_header(text, b"Content-Type", head.content_type.as_slice())?;
-    append_answer_header(text, b"Etag", head.etag.as_slice())?;
+    append_swift_header(text, b"Content-Type", head.content_type.as_slice())?;
+    append_swift_header(text, b"Etag", head.etag.as_slice())?;
     append_answer_manifest_flag(text, head.manifest)?;
-    append_answer_meta(text, head.meta.as_slice())?;
+    append_swift_meta(text, head.meta.as_slice())?;
     Ok(())
 }
 
@@ -314,7 +314,7 @@ fn append_answer_manifest_flag(text: &mut Bytes, manifest: bool) -> Result<(), M
     ensures { OnOk result (text.new ≡ text.old ++ print_headers (manifest_fields manifest)) }
 {
     if manifest {
-        append_answer_header(text, b"X-Static-Large-Object", b"True")?;
+        append_swift_header(text, b"X-Static-Large-Object", b"True")?;
     }
     Ok(())
 }

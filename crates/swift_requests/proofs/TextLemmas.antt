@@ -1,15 +1,12 @@
 -- The text of a call, part by part.
-use Rattle.std.proofs.Common.{◌≡◌, ℕ, suc, ◌+◌, ◌<◌, List, [], ◌∷◌, ◌++◌, length, take, get_or, length-take, ◌≤◌, Ok, Err, ap, sym, ◌∙◌, arith, append_assoc, append-nil}
-use Rattle.std.specs.Prelude.{Result, OnOk, codes, decimal}
+use Rattle.std.proofs.Common.{◌≡◌, ℕ, ◌+◌, List, [], ◌∷◌, ◌++◌, Ok, Err, ap, sym, ◌∙◌, append_assoc, append-nil}
+use Rattle.std.specs.Prelude.{Result, OnOk, codes}
 use Rattle.std.proofs.lemmas.Grind.{flat_map-append}
-use Rattle.std.proofs.lemmas.List.{take_all}
-use Rattle.std.proofs.Math.Seq.{take-suc}
 use Rattle.http1.specs.Fields.{Header}
 use Rattle.http1.specs.Head.{print_header, print_headers, request_text}
 use Rattle.httparse.specs.Ascii.{crlf_bytes}
 use Rattle.http1.proofs.HeadLemmas.{request_text_is}
 use Rattle.swift_calls.specs.declared.calls.SwiftRequest.{SwiftRequest}
-use Rattle.swift_replies.specs.AnswerText.{meta_fields}
 use Rattle.swift_requests.specs.CallText.{method_text, target_text, line_text, call_fields, body_of, call_text}
 use Rattle.swift_requests.specs.declared.place.Place.{Place}
 
@@ -19,42 +16,6 @@ on_ok (Err fault) P Q f fact = fact
 
 pub print_headers-append : (first second : List Header) → print_headers (first ++ second) ≡ print_headers first ++ print_headers second
 print_headers-append first second = flat_map-append print_header first second
-
-abbrev pub piece_field : ℕ → List ℕ → Header
-piece_field index piece = (codes "X-Object-Meta-S3-" ++ decimal index, piece)
-
-pub meta_fields_push : (index : ℕ) (pieces : List (List ℕ)) (piece : List ℕ)
-    → meta_fields index (pieces ++ piece ∷ []) ≡ meta_fields index pieces ++ piece_field (index + length pieces) piece ∷ []
-meta_fields_push index [] piece =
-    let e : index ≡ index + 0 = omega arith in ap (λ i. piece_field i piece ∷ []) e
-meta_fields_push index (first ∷ pieces) piece =
-    let e : index + 1 + length pieces ≡ index + length (first ∷ pieces) = omega arith in
-    ap (λ fields. piece_field index first ∷ fields)
-    (meta_fields_push (index + 1) pieces piece ∙ ap (λ i. meta_fields (index + 1) pieces ++ piece_field i piece ∷ []) e)
-
--- the pieces before an index are written, and then the one of the index
-pub meta_more : (text old new : List ℕ) (pieces : List (List ℕ)) (index : ℕ) (d : List ℕ) → index < length pieces
-    → text ≡ old ++ print_headers (meta_fields 0 (take index pieces)) → new ≡ text ++ print_header (piece_field index (get_or pieces index d))
-    → new ≡ old ++ print_headers (meta_fields 0 (take (index + 1) pieces))
-meta_more text old new pieces index d within before grown =
-    let one : index + 1 ≡ suc index = omega arith in
-    let size : 0 + length (take index pieces) ≡ index = omega (arith, length-take index pieces) in
-    let next : take (index + 1) pieces ≡ take index pieces ++ get_or pieces index d ∷ [] =
-    ap (λ n. take n pieces) one ∙ take-suc pieces index d within in
-    let fields : meta_fields 0 (take (index + 1) pieces) ≡ meta_fields 0 (take index pieces) ++ piece_field index (get_or pieces index d) ∷ [] =
-    ap (meta_fields 0) next ∙ meta_fields_push 0 (take index pieces) (get_or pieces index d)
-    ∙ ap (λ i. meta_fields 0 (take index pieces) ++ piece_field i (get_or pieces index d) ∷ []) size in
-    let printed : print_headers (meta_fields 0 (take (index + 1) pieces))
-    ≡ print_headers (meta_fields 0 (take index pieces)) ++ print_header (piece_field index (get_or pieces index d)) =
-    ap print_headers fields ∙ print_headers-append (meta_fields 0 (take index pieces)) (piece_field index (get_or pieces index d) ∷ [])
-    ∙ ap (λ t. print_headers (meta_fields 0 (take index pieces)) ++ t) (append-nil (print_header (piece_field index (get_or pieces index d)))) in
-    grown ∙ ap (λ t. t ++ print_header (piece_field index (get_or pieces index d))) before
-    ∙ append_assoc old (print_headers (meta_fields 0 (take index pieces))) (print_header (piece_field index (get_or pieces index d)))
-    ∙ ap (λ t. old ++ t) (sym printed)
-
-pub meta_all : (text old : List ℕ) (pieces : List (List ℕ)) (index : ℕ) → length pieces ≤ index
-    → text ≡ old ++ print_headers (meta_fields 0 (take index pieces)) → text ≡ old ++ print_headers (meta_fields 0 pieces)
-meta_all text old pieces index past before = before ∙ ap (λ ps. old ++ print_headers (meta_fields 0 ps)) (take_all index pieces past)
 
 -- ---- texts in a row
 

@@ -1,11 +1,11 @@
 //! Calls written.
-ghost use Rattle.std.specs.Prelude.{◌≡◌, ◌++◌, IfOk, OnOk, codes, decimal, length};
+ghost use Rattle.std.specs.Prelude.{◌≡◌, ◌++◌, IfOk, OnOk, length};
 ghost use Rattle.http1.specs.Head.{print_header, print_headers};
 ghost use Rattle.swift_calls.specs.Step.{Fit};
 ghost use Rattle.swift_requests.specs.Place.{IsPlace};
 ghost use Rattle.swift_requests.specs.Calls.{SpellsRequest};
 ghost use Rattle.swift_requests.specs.CallText.{method_text, body_of, body_with, line_text, call_fields, own_fields, content_fields, readers_field, range_field, range_fields, call_text};
-ghost use Rattle.swift_replies.specs.AnswerText.{readers_text, created_fields, meta_fields};
+ghost use Rattle.swift_replies.specs.AnswerText.{readers_text};
 
 use crate::Place;
 use crate::call_target::append_target;
@@ -14,6 +14,10 @@ use gate_base::{Bytes, List, Memory};
 use slo_manifest::{Form, write};
 use std::alloc::Global;
 use swift_calls::{ReadList, SwiftRequest};
+use swift_replies::{
+    append_swift_created, append_swift_header, append_swift_meta, append_swift_number_header,
+    readers_text,
+};
 use text_forms::append_decimal;
 
 /// Room for most heads, so that they are not moved as their text grows.
@@ -132,30 +136,10 @@ fn append_call_fields(
     requires { size ≡ length (body_of call.now) }
     ensures { OnOk result (text.new ≡ text.old ++ print_headers (call_fields place.now call.now)) }
 {
-    append_call_field(text, b"Host", place.host.as_slice())?;
-    append_call_field(text, b"X-Auth-Token", place.token.as_slice())?;
+    append_swift_header(text, b"Host", place.host.as_slice())?;
+    append_swift_header(text, b"X-Auth-Token", place.token.as_slice())?;
     append_own_call_fields(text, call)?;
-    append_call_number_field(text, b"Content-Length", size as u64)
-}
-
-/// Adds a field.
-fn append_call_field(text: &mut Bytes, name: &[u8], value: &[u8]) -> Result<(), Memory>
-    ensures { OnOk result (text.new ≡ text.old ++ print_header (name.now, value.now)) }
-{
-    text.append(name)?;
-    text.append(b": ")?;
-    text.append(value)?;
-    text.append(b"\r\n")
-}
-
-/// Adds a field whose value is a number.
-fn append_call_number_field(text: &mut Bytes, name: &[u8], number: u64) -> Result<(), Memory>
-    ensures { OnOk result (text.new ≡ text.old ++ print_header (name.now, decimal number)) }
-{
-    text.append(name)?;
-    text.append(b": ")?;
-    append_decimal(text, number)?;
-    text.append(b"\r\n")
+    append_swift_number_header(text, b"Content-Length", size as u64)
 }
 
 /// Adds the fields of the call's own.
@@ -169,7 +153,7 @@ fn append_own_call_fields(text: &mut Bytes, call: &SwiftRequest) -> Result<(), M
             ..
         } => {
             append_call_readers(text, *readers)?;
-            append_call_created(text, *created)
+            append_swift_created(text, *created)
         }
         SwiftRequest::PostContainer { readers, .. } => append_call_readers(text, *readers),
         SwiftRequest::PutObject {
@@ -196,32 +180,14 @@ fn append_call_content(
     ensures { OnOk result
         (text.new ≡ text.old ++ print_headers (content_fields content_type.now meta.now)) }
 {
-    append_call_field(text, b"Content-Type", content_type.as_slice())?;
-    append_call_meta(text, meta.as_slice())
+    append_swift_header(text, b"Content-Type", content_type.as_slice())?;
+    append_swift_meta(text, meta.as_slice())
 }
 
 fn append_call_readers(text: &mut Bytes, readers: ReadList) -> Result<(), Memory>
     ensures { OnOk result (text.new ≡ text.old ++ print_header (readers_field readers)) }
 {
-    append_call_field(text, b"X-Container-Read", call_readers_text(readers))
-}
-
-fn call_readers_text(readers: ReadList) -> &'static [u8]
-    ensures { result.now ≡ readers_text readers }
-{
-    match readers {
-        ReadList::Nobody => b"",
-        ReadList::Everybody => b".r:*,.rlistings",
-    }
-}
-
-fn append_call_created(text: &mut Bytes, created: Option<u64>) -> Result<(), Memory>
-    ensures { OnOk result (text.new ≡ text.old ++ print_headers (created_fields created)) }
-{
-    match created {
-        Some(moment) => append_call_number_field(text, b"X-Container-Meta-S3-Created", moment),
-        None => Ok(()),
-    }
+    append_swift_header(text, b"X-Container-Read", readers_text(readers))
 }
 
 fn append_call_range_if_asked(text: &mut Bytes, range: Option<(u64, u64)>) -> Result<(), Memory>
@@ -240,26 +206,5 @@ fn append_call_range(text: &mut Bytes, first: u64, last: u64) -> Result<(), Memo
     append_decimal(text, first)?;
     text.append(b"-")?;
     append_decimal(text, last)?;
-    text.append(b"\r\n")
-}
-
-/// Adds the pieces of metadata, each under its index.
-fn append_call_meta(text: &mut Bytes, pieces: &[Bytes]) -> Result<(), Memory>
-    ensures { OnOk result (text.new ≡ text.old ++ print_headers (meta_fields 0 pieces.now)) }
-{
-    'pieces: for (index, piece) in pieces.iter().enumerate() {
-        append_call_meta_field(text, index as u64, piece.as_slice())?;
-    }
-    Ok(())
-}
-
-fn append_call_meta_field(text: &mut Bytes, index: u64, piece: &[u8]) -> Result<(), Memory>
-    ensures { OnOk result (text.new ≡ text.old
-        ++ print_header (codes "X-Object-Meta-S3-" ++ decimal index, piece.now)) }
-{
-    text.append(b"X-Object-Meta-S3-")?;
-    append_decimal(text, index)?;
-    text.append(b": ")?;
-    text.append(piece)?;
     text.append(b"\r\n")
 }

@@ -44,7 +44,7 @@ impl Kept {
         requires size { size_of object.content < 2 ^ 63 }
         ensures { result ≡ object_of object }
     {
-        let size = shelved_size(&object.content);
+        let size = object.content.size();
         Kept {
             content_type: object.content_type,
             meta: object.meta,
@@ -116,17 +116,6 @@ fn is_list_content(content: &Content) -> bool
     match content {
         Content::Plain(_) => false,
         Content::Segments(_) => true,
-    }
-}
-
-/// The size of an object in bytes.
-fn shelved_size(content: &Content) -> u64
-    requires { size_of content.now < 2 ^ 63 }
-    ensures { result ≡ size_of content.now }
-{
-    match content {
-        Content::Plain(bytes) => bytes.len() as u64,
-        Content::Segments(segments) => segments.as_slice().iter().map(|s| s.size).sum(),
     }
 }
 

@@ -1,11 +1,12 @@
 //! Numbers in decimal.
-ghost use Rattle.std.specs.Prelude.{◌≡◌, ◌≤◌, ◌++◌, OnOk, bytes_eq, decimal};
+ghost use Rattle.std.specs.Prelude.{◌≡◌, ◌≤◌, ◌++◌, IfOk, OnOk, bytes_eq, decimal};
 ghost use Rattle.text_forms.specs.Numbers.{is_number, number_of};
 
 use crate::classes::all_digits;
 use crate::digits::digits_value;
 use gate_base::{Bytes, Memory};
 use itoa::Buffer;
+use std::alloc::Global;
 
 /// Whether the text is 1 to `most` digits.
 pub fn is_number(text: &[u8], most: usize) -> bool
@@ -41,4 +42,12 @@ pub fn append_decimal(text: &mut Bytes, number: u64) -> Result<(), Memory>
 {
     let mut buffer = Buffer::new();
     text.append(buffer.format(number).as_bytes())
+}
+
+/// A number in decimal.
+pub fn decimal_text(alloc: Global, number: u64) -> Result<Bytes, Memory>
+    ensures { IfOk result (λ text. text ≡ decimal number) }
+{
+    let mut buffer = Buffer::new();
+    Bytes::from_slice(alloc, buffer.format(number).as_bytes())
 }

@@ -15,7 +15,8 @@ use Rattle.swift_calls.specs.declared.calls.SwiftRequest.TheVariants.{PutObject,
 use Rattle.swift_calls.specs.declared.calls.SwiftReply.TheVariants.{Stored}
 use Rattle.text_forms.specs.Numbers.{number_of}
 use Rattle.text_forms.proofs.lemmas.Decimals.{decimal_digits, number_of_decimal}
-use Rattle.swift_replies.specs.Fields.{is_reply_etag_byte, is_quoted, tag_in, tag_only}
+use Rattle.text_forms.specs.Quotes.{is_quoted}
+use Rattle.swift_replies.specs.Fields.{is_reply_etag_byte, tag_in, tag_only}
 use Rattle.http_answers.specs.Framing.{expected}
 use Rattle.swift_replies.specs.Answers.{SpellsAnswer, asks_head, reply_of}
 use Rattle.swift_replies.specs.AnswerText.{Sent, head_text, is_tag, sent_text, stored_by, stored_sent, text_by, within_limit, length_field, etag_field}

@@ -1,8 +1,11 @@
 use Rattle.std.proofs.Common.{sym, subst, ◌∙◌}
 use Rattle.swift_calls.specs.Step.{Fit}
 use Rattle.account_calls.specs.Sealed.{put_by}
-use Rattle.account_calls.proofs.lemmas.SealStands.{object_fits}
+use Rattle.account_calls.proofs.lemmas.SealStands.{object_fits, sealed_tag_has_text}
 use Rattle.account_calls.proofs.sealed.object_request.Goals as goal
+
+pub sealed_object_tag-requires : goal.sealed_object_tag-requires
+sealed_object_tag-requires c = sealed_tag_has_text c.args.sealed.now c.requires
 
 pub returns-clause-request : goal.returns-clause-request
 returns-clause-request c =

@@ -14,4 +14,4 @@ pub returns-in_err-reply : goal.returns-in_err-reply
 returns-in_err-reply g c = record { asks = asked_of_in_vain (listing_reads c.in_ok-container.ensures c.in_ok-name.ensures) c.in_err-reply.ensures _ c.from_residual-in_err-reply.ensures.1; leaves = throughout_one (λ tree. refl) c.in_err-reply.ensures }
 
 pub returns : goal.returns
-returns g c = record { asks = asked_of (listing_reads c.in_ok-container.ensures c.in_ok-name.ensures) c.in_ok-reply.ensures _ (inr c.listing_in_reply.ensures.due) c.listing_in_reply.ensures.own; leaves = throughout_one (λ tree. refl) c.in_ok-reply.ensures }
+returns g c = record { asks = asked_of (listing_reads c.in_ok-container.ensures c.in_ok-name.ensures) c.in_ok-reply.ensures _ (inr c.interpret_listed_segments.ensures.due) c.interpret_listed_segments.ensures.own; leaves = throughout_one (λ tree. refl) c.in_ok-reply.ensures }

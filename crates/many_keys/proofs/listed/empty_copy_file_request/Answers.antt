@@ -1,8 +1,11 @@
 use Rattle.std.proofs.Common.{sym, subst, ◌∙◌}
 use Rattle.swift_calls.specs.Step.{Fit}
 use Rattle.swift_calls.specs.declared.calls.SwiftRequest.TheVariants.{PutObject}
-use Rattle.many_keys.proofs.PutsCopy.{none_fits, put_none}
+use Rattle.many_keys.proofs.PutsCopy.{none_fits, put_none, tag_has_text}
 use Rattle.many_keys.proofs.listed.empty_copy_file_request.Goals as goal
+
+pub sealed_object_tag-requires : goal.sealed_object_tag-requires
+sealed_object_tag-requires c = tag_has_text c.args.sealed.now c.requires.copy
 
 pub returns-clause-request : goal.returns-clause-request
 returns-clause-request c =

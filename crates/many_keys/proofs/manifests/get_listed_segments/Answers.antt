@@ -26,4 +26,4 @@ returns-in_err-reply-clause-asks g c =
 pub returns-clause-asks : goal.returns-clause-asks
 returns-clause-asks g c =
     asked_of (list_reads_so c.law_listing_found.ensures c.in_ok-container.ensures c.in_ok-name.ensures c.requires.place.named c.requires.of_parts c.requires.filled)
-    c.in_ok-reply.ensures.calls _ (inr c.listed_in_reply.ensures.due) c.listed_in_reply.ensures.own
+    c.in_ok-reply.ensures.calls _ (inr c.interpret_listed_segments.ensures.due) c.interpret_listed_segments.ensures.own

@@ -10,4 +10,4 @@ pub returns-in_err-reply-clause-asks : goal.returns-in_err-reply-clause-asks
 returns-in_err-reply-clause-asks g c = asked_of_in_vain (sub_reads_so c.args.bucket.now c.args.id c.args.n c.in_ok-request.ensures.request) c.in_err-reply.ensures.calls _ c.from_residual-in_err-reply.ensures.1
 
 pub returns-clause-asks : goal.returns-clause-asks
-returns-clause-asks g c = asked_of (sub_reads_so c.args.bucket.now c.args.id c.args.n c.in_ok-request.ensures.request) c.in_ok-reply.ensures.calls _ (inr c.listed_in_reply.ensures.due) c.listed_in_reply.ensures.own
+returns-clause-asks g c = asked_of (sub_reads_so c.args.bucket.now c.args.id c.args.n c.in_ok-request.ensures.request) c.in_ok-reply.ensures.calls _ (inr c.interpret_listed_segments.ensures.due) c.interpret_listed_segments.ensures.own

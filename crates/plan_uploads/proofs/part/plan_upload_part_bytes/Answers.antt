@@ -16,15 +16,15 @@ returns-in_err-text-clause-plans g c = λ key text. out_of_memory _ _ c.from_res
 
 pub returns-clause-plans : goal.returns-clause-plans
 returns-clause-plans g c = λ key text.
-    subst (Plans _ _ _ _ _ _ _ _) (sym c.end_upload_part_plan.ensures)
+    subst (Plans _ _ _ _ _ _ _ _) (sym c.stored_end.ensures)
     (commits _ (lit≤ tt) c.put_part.ensures.changes (λ done. search rules) (λ tree found. has_open found)
     (λ tree done new found is. becomes (part_stored _ _ _ _ _ tree c.requires.name c.args.id found _ _ _ (c.in_ok-text.ensures ∙ c.requires.etag)) is))
 
 pub returns-clause-stands : goal.returns-clause-stands
-returns-clause-stands g c = subst (EnsuresIfDone _ _) (sym c.end_upload_part_plan.ensures) (ensures_ended _ _ c.put_part.ensures.stands)
+returns-clause-stands g c = subst (EnsuresIfDone _ _) (sym c.stored_end.ensures) (ensures_ended _ _ c.put_part.ensures.stands)
 
 pub returns-clause-unrefused : goal.returns-clause-unrefused
-returns-clause-unrefused g c = subst Unrefused (sym c.end_upload_part_plan.ensures) (unrefused_ended _ (λ told. refl) _)
+returns-clause-unrefused g c = subst Unrefused (sym c.stored_end.ensures) (unrefused_ended _ (λ told. refl) _)
 
 pub returns-clause-kind : goal.returns-clause-kind
-returns-clause-kind g c = subst AnswersUpload (sym c.end_upload_part_plan.ensures) (kind_ended _ (λ told. refl) _)
+returns-clause-kind g c = subst AnswersUpload (sym c.stored_end.ensures) (kind_ended _ (λ told. refl) _)

@@ -14,16 +14,16 @@ returns-in_err-text-clause-plans g c = out_of_memory _ _ c.from_residual.ensures
 
 pub returns-clause-plans : goal.returns-clause-plans
 returns-clause-plans g c =
-    subst (Plans _ _ _ _ _ _ _ _) (sym c.end_put_object_plan.ensures)
+    subst (Plans _ _ _ _ _ _ _ _) (sym c.stored_end.ensures)
     (commits _ (lit≤ tt) c.put_object.ensures.changes (λ done. search rules) (λ tree there. (c.args.list, there))
     (λ tree done new there is. becomes (put_stored c.args.state.now.settings.now _ c.args.bucket c.args.key c.args.label.now _ there c.args.acl c.args.content_type c.args.meta.now c.args.body _
     c.requires.acl (c.in_ok-text.ensures ∙ c.requires.etag)) is))
 
 pub returns-clause-stands : goal.returns-clause-stands
-returns-clause-stands g c = subst (EnsuresIfDone _ _) (sym c.end_put_object_plan.ensures) (ensures_ended _ _ c.put_object.ensures.stands)
+returns-clause-stands g c = subst (EnsuresIfDone _ _) (sym c.stored_end.ensures) (ensures_ended _ _ c.put_object.ensures.stands)
 
 pub returns-clause-unrefused : goal.returns-clause-unrefused
-returns-clause-unrefused g c = subst Unrefused (sym c.end_put_object_plan.ensures) (unrefused_ended _ (λ told. refl) _)
+returns-clause-unrefused g c = subst Unrefused (sym c.stored_end.ensures) (unrefused_ended _ (λ told. refl) _)
 
 pub returns-clause-bodiless : goal.returns-clause-bodiless
-returns-clause-bodiless g c = bodiless_by _ _ _ _ c.end_put_object_plan.ensures (λ told. tt)
+returns-clause-bodiless g c = bodiless_by _ _ _ _ c.stored_end.ensures (λ told. tt)

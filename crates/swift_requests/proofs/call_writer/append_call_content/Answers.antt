@@ -7,9 +7,9 @@ use Rattle.swift_requests.proofs.call_writer.append_call_content.Goals as goal
 
 pub returns : goal.returns
 returns c =
-    on_ok c.append_call_meta.result _ _
-    (λ e. two_parts c.args.text.now c.append_call_field.new.text c.append_call_meta.new.text (print_header (codes "Content-Type", c.args.content_type.now))
+    on_ok c.append_swift_meta.result _ _
+    (λ e. two_parts c.args.text.now c.append_swift_header.new.text c.append_swift_meta.new.text (print_header (codes "Content-Type", c.args.content_type.now))
     (print_headers (meta_fields 0 c.args.meta.now))
-    (c.in_ok-append_call_field.ensures ∙ ap (λ value. c.args.text.now ++ print_header (codes "Content-Type", value)) c.as_slice.ensures)
-    (e ∙ ap (λ pieces. c.append_call_field.new.text ++ print_headers (meta_fields 0 pieces)) c.as_slice-2.ensures))
-    c.append_call_meta.ensures
+    (c.in_ok-append_swift_header.ensures ∙ ap (λ value. c.args.text.now ++ print_header (codes "Content-Type", value)) c.as_slice.ensures)
+    (e ∙ ap (λ pieces. c.append_swift_header.new.text ++ print_headers (meta_fields 0 pieces)) c.as_slice-2.ensures))
+    c.append_swift_meta.ensures
