@@ -1,7 +1,8 @@
 #!/usr/bin/env bash
-# What a listing of 1,000 keys takes out of 1,000, 10,000 and 100,000, by `s3gate serve` over `swiftd` and by the store alone;
-# what requests on uploads take that make a call for each upload or part, for 100 of them and for 1,000; and what an object of
-# 1,000 and of 10,000 parts of one byte takes, from its upload to its copy, with the most memory that both programs had.
+# What a listing of 1,000 keys takes out of 1,000, 10,000 and 100,000, by `s3gate serve` over `swiftd` and by the store alone, and
+# the processor that s3gate takes of it; by how many calls so many keys under one prefix are listed as that prefix; what requests
+# on uploads take that make a call for each upload or part, for 100 of them and for 1,000; and what an object of 1,000 and of 10,000
+# parts of one byte takes, from its upload to its copy, with the most memory that both programs had.
 #
 #   bench/listings.sh [FOLDER] [ROUNDS]
 #
@@ -65,6 +66,12 @@ def s3(client, place, method, path, body=b"", **headers):
     return answer.status, answer.read()
 
 
+def busy(process):
+    """The milliseconds of processor that a process of one thread took so far."""
+    with open(f"/proc/{process.pid}/schedstat", encoding="ascii") as it:
+        return int(it.read().split()[0]) / 1e6
+
+
 def middle(ask, rounds=ROUNDS):
     times = []
     for _ in range(rounds):
@@ -89,6 +96,26 @@ def put_uploads(client, bucket, uploads):
             status, body = swift(client, "PUT", f"/{bucket}{name}", {"Content-Type": kind}.items(), body)
             if status != 201:
                 sys.exit(f"a PUT is answered {status}: {body}")
+
+
+def prefix_row(client, s3gate, store, gate, many, number, kind):
+    """A bucket with so many keys under one prefix, one before them and one behind: the calls of its listing with a delimiter, and the milliseconds."""
+    bucket = f"one{number}"
+    swift(client, "PUT", f"/{bucket}", {"X-Container-Read": "", "X-Container-Meta-S3-Created": "1369353600"}.items())
+    for name in ["a", *(f"one/{at:06}" for at in range(number)), "z"]:
+        status, body = swift(client, "PUT", f"/{bucket}/{name}", {"Content-Type": kind}.items())
+        if status != 201:
+            sys.exit(f"a PUT is answered {status}: {body}")
+    client.close()
+    place = {"S3GATE_KEYS": os.path.abspath("examples/keys.txt"), "S3GATE_LISTEN": gate, "S3GATE_STORE": store, "S3GATE_ACCOUNT": ACCOUNT, "S3GATE_TOKEN": TOKEN}
+    with tempfile.TemporaryFile() as log, started([s3gate, "serve", *many], gate, log, **place):
+        gateway = http.client.HTTPConnection(gate, timeout=60)
+        s3(gateway, gate, "HEAD", f"/{bucket}")
+        took, body = middle(lambda: s3(gateway, gate, "GET", f"/{bucket}?list-type=2&delimiter=%2F"))
+        if body.count(b"<Key>") != 2 or body.count(b"<CommonPrefixes>") != 1:
+            sys.exit(f"a page hasn't two keys and a common prefix: {body[:300]}")
+        yield calls_of(log), took
+        gateway.close()
 
 
 def upload_rows(s3gate, store, gate, many):
@@ -204,7 +231,7 @@ def main():
     many = ["--connections", "1000000"]
     load = " ".join(f"{it:.1f}" for it in os.getloadavg())
     print(f"{datetime.datetime.now(datetime.timezone.utc):%Y-%m-%d %H:%M} UTC, {os.cpu_count()} processors, load {load}; {ROUNDS} rounds")
-    print("| keys | the store's page, ms | first page, ms | last page, ms | with a delimiter, ms |\n|---|---|---|---|---|")
+    print("| keys | the store's page, ms | first page, ms | s3gate's processor, ms | last page, ms | with a delimiter, ms |\n|---|---|---|---|---|---|")
     with contextlib.ExitStack() as stack:
         kept = stack.enter_context(started([swiftd, "--token", TOKEN, "--account", ACCOUNT, *many], store, SWIFTD_LISTEN=store))
         client = http.client.HTTPConnection(store, timeout=60)
@@ -219,9 +246,12 @@ def main():
                     sys.exit(f"a PUT is answered {status}: {body}")
             plain, _ = middle(lambda: swift(client, "GET", f"/{bucket}?format=json&limit=1000&marker=&prefix="))
             client.close()
-            with started([s3gate, "serve", *many], gate, S3GATE_KEYS=os.path.abspath("examples/keys.txt"), S3GATE_LISTEN=gate, S3GATE_STORE=store, S3GATE_ACCOUNT=ACCOUNT, S3GATE_TOKEN=TOKEN):
+            with started([s3gate, "serve", *many], gate, S3GATE_KEYS=os.path.abspath("examples/keys.txt"), S3GATE_LISTEN=gate, S3GATE_STORE=store, S3GATE_ACCOUNT=ACCOUNT, S3GATE_TOKEN=TOKEN) as process:
                 gateway = http.client.HTTPConnection(gate, timeout=60)
+                s3(gateway, gate, "HEAD", f"/{bucket}")
+                begun = busy(process)
                 first, body = middle(lambda: s3(gateway, gate, "GET", f"/{bucket}?list-type=2"))
+                spent = (busy(process) - begun) / ROUNDS
                 if body.count(b"<Contents>") != 1000:
                     sys.exit("a page hasn't 1,000 keys")
                 last, _ = middle(lambda: s3(gateway, gate, "GET", f"/{bucket}?list-type=2&start-after={(number - 1000) // 100:04}%2F"))
@@ -230,7 +260,11 @@ def main():
                     sys.exit("a page hasn't 10 common prefixes")
                 gateway.close()
             client = http.client.HTTPConnection(store, timeout=60)
-            print(f"| {number:,} | {plain:.1f} | {first:.1f} | {last:.1f} | {rolled:.1f} |", flush=True)
+            print(f"| {number:,} | {plain:.1f} | {first:.1f} | {spent:.2f} | {last:.1f} | {rolled:.1f} |", flush=True)
+        print("\n| keys under one prefix | calls of a listing with a delimiter | ms |\n|---|---|---|")
+        for number in 1000, 10000, 100000:
+            for title, value in prefix_row(client, s3gate, store, gate, many, number, kind):
+                print(f"| {number:,} | {title} | {value:.1f} |", flush=True)
         client.close()
         print("\n| request | of | calls | ms |\n|---|---|---|---|")
         for title, number, calls, took in upload_rows(s3gate, store, gate, many):

@@ -7,6 +7,7 @@ pub mod Markers
 pub mod Namings
 pub mod NoneLeft
 pub mod PageSweep
+pub mod RecordReads
 pub mod Removals
 pub mod SealedNames
 pub mod SegmentNames

@@ -1,7 +1,7 @@
 -- What the item of an object in the listing of its bucket says of the segments that it lists; and the calls that read a record and
 -- a list of segments.
-use Rattle.std.specs.Prelude.{◌≡◌, ◌<◌, ◌≤◌, ◌+◌, ℕ, Bool, true, false, List, [], ◌∷◌, length, sum_by, is_none, Option, None, Some, Result, Ok, Err}
-use Rattle.std.specs.Option.{option_and_then, unwrap_or}
+use Rattle.std.specs.Prelude.{◌≡◌, ◌<◌, ◌≤◌, ◌+◌, ℕ, true, false, List, [], ◌∷◌, length, sum_by, is_none, Option, None, Some, Result, Err}
+use Rattle.std.specs.Option.{unwrap_or}
 use Rattle.std.specs.Result.{IsErrAnd}
 use Rattle.std.specs.FinMap.{get}
 use Rattle.std.proofs.Common.{refl, sym, ap, subst, ◌∙◌, arith, true≢false}
@@ -14,19 +14,16 @@ use Rattle.s3_names.specs.Key.{is_key}
 use Rattle.s3_machine.specs.ETag.{body_etag}
 use Rattle.slo_manifest.specs.declared.Segment.{Segment}
 use Rattle.swift_calls.specs.Account.{SwiftObject, SwiftAccount, files, find_object, size_of}
-use Rattle.swift_calls.specs.Bodies.{bytes_of, head_of, plain_bytes, listed_in}
-use Rattle.swift_calls.specs.Step.{body_reply, get_reply, manifest_by, manifest_reply}
-use Rattle.swift_calls.specs.declared.calls.SwiftRequest.TheVariants.{GetManifest, GetObject}
-use Rattle.swift_calls.specs.declared.calls.SwiftReply.{SwiftReply}
+use Rattle.swift_calls.specs.Bodies.{listed_in}
+use Rattle.swift_calls.specs.Step.{manifest_by, manifest_reply}
+use Rattle.swift_calls.specs.declared.calls.SwiftRequest.TheVariants.{GetManifest}
 use Rattle.swift_calls.specs.declared.heads.NameItem.{NameItem}
 use Rattle.swift_marks.specs.Tag.{read_stamp, read_tag, stamp_of}
 use Rattle.swift_marks.specs.declared.tag.Stamp.{Stamp}
 use Rattle.swift_marks.specs.declared.tag.Tag.{Tag}
 use Rattle.swift_marks.proofs.lemmas.Stamps.{tag_has_stamp}
-use Rattle.upload_texts.specs.Records.{read_record}
 use Rattle.upload_records.specs.Layout.{segments_name, uploads_name}
-use Rattle.upload_records.specs.Native.{record_of}
-use Rattle.upload_records.specs.Consistent.{AreParts, IsCompletedBody, of_none, of_segments, IsConsistent, IsObject, in_one_piece, in_parts, IsRecord, IsThere}
+use Rattle.upload_records.specs.Consistent.{AreParts, IsCompletedBody, of_none, of_segments, IsConsistent, IsObject, in_one_piece, in_parts, IsThere}
 use Rattle.upload_records.proofs.lemmas.Objects.{file_is_object}
 use Rattle.upload_records.proofs.lemmas.Subs.{listing_sum}
 use Rattle.swift_calls.specs.History.{History, present}
@@ -43,8 +40,8 @@ use Rattle.account_calls.proofs.lemmas.Faults.{err_is}
 use Rattle.account_calls.proofs.lemmas.FilePages.{file_is_key}
 use Rattle.account_calls.proofs.lemmas.Idle.{grows_none}
 use Rattle.account_calls.proofs.lemmas.One.{IsReadingOf, not_asked}
-use Rattle.leftovers.specs.Gathering.{AreKnown, HasItem, HasListing, HasRecord, TellsListing, TellsOpen, open_by, open_due, segments_at, sub_manifests_in}
-use Rattle.leftovers.specs.Leftovers.{is_open, segments_in}
+use Rattle.leftovers.specs.Gathering.{AreKnown, HasItem, HasListing, HasRecord, TellsListing, segments_at, sub_manifests_in}
+use Rattle.leftovers.specs.Leftovers.{segments_in}
 use Rattle.leftovers.proofs.SubManifests.{list_known}
 
 -- ---- the item of an object
@@ -165,26 +162,7 @@ listing_reads {bucket = bucket} {key = key} named under = record {
   );
 }
 
--- ---- GET of a record
-
-record_file : (name : List ℕ) (file : SwiftObject) (kept : IsRecord name file) → record_of file ≡ Some kept.is
-record_file name file kept = ap (λ c. option_and_then read_record (plain_bytes c)) kept.own ∙ kept.reads
-
-module _ (tree : SwiftAccount) (bucket name : List ℕ) (is : is_bucket bucket ≡ true) (sound : IsConsistent tree) (has : HasRecord bucket name tree) where
-  open_told_by : (reply : SwiftReply) → reply ≡ get_reply (find_object tree) None (Some has.file) → (told : Bool) × (open_due reply ≡ Ok told) × TellsOpen bucket name tree told
-  open_told_by reply e =
-      let kept = (sound.buckets bucket is has.there).of_records name has.file has.found in (
-        is_open (Some kept.is),
-        ap open_due e ∙ (λ i. open_due (body_reply (head_of has.file) None (bytes_of (find_object tree) (kept.own i)))) ∙ ap open_by kept.reads,
-        sym (ap is_open (ap (option_and_then record_of) has.found ∙ record_file name has.file kept)),
-      )
-
-pub open_reads : {container name under : List ℕ} (bucket : List ℕ) → container ≡ uploads_name bucket → name ≡ under → is_bucket bucket ≡ true → IsReadingOf (HasRecord bucket under) (GetObject container name None) open_due (TellsOpen bucket under)
-open_reads {under = under} bucket named same is = record {
-  leaves = λ tree. refl;
-  tells = λ tree sound has reply replied.
-      open_told_by tree bucket under is sound has reply (replied ∙ (λ i. get_reply (find_object tree) None (find_object tree (named i) (same i))) ∙ ap (get_reply (find_object tree) None) has.found);
-}
+-- ---- the file of a record
 
 -- the item of a record says that its file is there
 pub has_record : {folder bucket : List ℕ} {item : NameItem} → folder ≡ uploads_name bucket → (tree : SwiftAccount) → HasItem folder bucket item tree → HasRecord bucket item.name tree

@@ -9,16 +9,11 @@ use Rattle.swift_calls.specs.Account.{SwiftObject, SwiftAccount, files, find_obj
 use Rattle.swift_calls.specs.Bodies.{item_of}
 use Rattle.swift_calls.specs.History.{History, present}
 use Rattle.swift_calls.specs.declared.account.Content.TheVariants.{Segments}
-use Rattle.swift_calls.specs.declared.calls.SwiftReply.{SwiftReply}
-use Rattle.swift_calls.specs.declared.calls.SwiftReply.TheVariants.{Bytes}
 use Rattle.swift_calls.specs.declared.heads.NameItem.{NameItem}
-use Rattle.upload_texts.specs.Records.{read_record}
-use Rattle.upload_texts.specs.declared.record.Record.{Record}
 use Rattle.upload_records.specs.Layout.{uploads_name, segments_name}
 use Rattle.upload_records.specs.Native.{record_at}
 use Rattle.upload_records.specs.Consistent.{IsThere}
 use Rattle.account_calls.specs.declared.fault.PlanFault.{PlanFault}
-use Rattle.account_calls.specs.declared.fault.PlanFault.TheVariants.{Inconsistent}
 use Rattle.account_calls.specs.Answers.{pages}
 use Rattle.account_calls.specs.Calls.{Met}
 use Rattle.account_calls.specs.FilePages.{rows_after}
@@ -166,13 +161,3 @@ abbrev pub PaysGathering : List ℕ → List ℕ → List ℕ → History → Hi
 PaysGathering folder bucket marker old new result = Met (InBucket bucket) old → new.called + left_to_gather (present old) folder result ≤ old.called + gather_after (present old) folder marker
 
 -- ---- what an answer comes to
-
--- GET of a record's file, which a listing has just told of: so that it isn't there is inconsistent, and no reason to take its upload
--- for ended
-abbrev pub open_by : Option Record → Result Bool PlanFault
-open_by None = Err Inconsistent
-open_by (Some told) = Ok (is_open (Some told))
-
-abbrev pub open_due : SwiftReply → Result Bool PlanFault
-open_due (Bytes head body) = open_by (read_record body)
-open_due _ = Err Inconsistent

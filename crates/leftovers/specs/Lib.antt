@@ -2,6 +2,7 @@ pub mod Gathering
 pub mod Kept
 pub mod Laws
 pub mod Leftovers
+pub mod Records
 pub mod Segments
 pub mod Sides
 pub mod Strays

@@ -1,5 +1,5 @@
 //! What a sweep remembers of a bucket, gathered from the files of a container page by page.
-ghost use Rattle.std.specs.Prelude.{◌≡◌, ◌≢◌, ◌<◌, ◌≤◌, ◌+◌, ◌*◌, ◌||◌, ℕ, List, [], ◌∷◌, length, map, true, is_some, IfOk, IfSome, OnOk, Err, Some};
+ghost use Rattle.std.specs.Prelude.{◌≡◌, ◌<◌, ◌≤◌, ◌+◌, ◌*◌, ◌||◌, ℕ, List, [], ◌∷◌, length, map, true, is_some, IfOk, IfSome, OnOk, Err, Some};
 ghost use Rattle.std.specs.List.{list_all};
 ghost use Rattle.std.specs.FinMap.{get};
 ghost use Rattle.s3_names.specs.Bucket.{is_bucket};
@@ -8,28 +8,27 @@ ghost use Rattle.list_pages.specs.Listing.{name_in};
 ghost use Rattle.swift_calls.specs.History.{budget, present};
 ghost use Rattle.swift_calls.specs.Limits.{IsMarker};
 ghost use Rattle.swift_calls.specs.Step.{IsContainerName};
-ghost use Rattle.upload_texts.specs.Records.{read_record};
 ghost use Rattle.upload_records.specs.Layout.{segments_name};
 ghost use Rattle.account_calls.specs.Calls.{always, by_account, Asks};
-ghost use Rattle.account_calls.specs.Interpret.{Gives};
 ghost use Rattle.account_calls.specs.Listing.{TellsOf};
 ghost use Rattle.account_calls.specs.Told.{LeavesThroughout};
 ghost use Rattle.account_calls.specs.declared.fault.PlanFault.TheVariants as fault;
-ghost use Rattle.leftovers.specs.Gathering.{calls_a_file, folder_of, gather_calls, open_by, open_due, sub_manifests_in, AreKnown, HasItem, HasItems, HasListing, HasRecord, InBucket, IsKnown, PaysGathering, TellsAdded, TellsAll, TellsGathered, TellsInner, TellsListing, TellsNamed, TellsOpen};
+ghost use Rattle.leftovers.specs.Gathering.{calls_a_file, folder_of, gather_calls, sub_manifests_in, AreKnown, HasItem, HasItems, HasListing, HasRecord, InBucket, IsKnown, PaysGathering, TellsAdded, TellsAll, TellsGathered, TellsInner, TellsListing, TellsNamed, TellsOpen};
 ghost use Rattle.leftovers.specs.Leftovers.{is_named_in, is_open, is_sub_manifest_name};
 ghost use Rattle.leftovers.specs.declared.gathering.Source.TheVariants.{Objects, Records};
 
 use crate::files::file_page;
+use crate::records::get_listed_record;
 use account_calls::{PlanFault, ask, interpret_listed_segments, next_marker};
 use gate_base::{Bytes, Copying, List, Memory, drop};
 use name_table::Table;
 use s3_names::is_key;
 use slo_manifest::Segment;
 use std::alloc::Global;
-use swift_calls::{NameItem, Swift, SwiftReply, SwiftRequest};
+use swift_calls::{NameItem, Swift, SwiftRequest};
 use swift_marks::Stamp;
 use upload_records::segments_container;
-use upload_texts::{Record, RecordFault};
+use upload_texts::Record;
 
 /// Of which files what they add is gathered.
 #[derive(Clone, Copy, Debug, PartialEq, Eq)]
@@ -42,7 +41,6 @@ pub enum Source {
 
 /// Whether a record that was listed is that of an open upload, by GET of its file (Object Storage API v1, "Get object content and
 /// metadata"). One that isn't there now is inconsistent. At most one call.
-#[tactic(auto, using(account_calls::proofs::lemmas::Names::object_name))]
 fn is_open_upload<W: Swift>(
     alloc: Global,
     store: &mut W,
@@ -56,41 +54,10 @@ fn is_open_upload<W: Swift>(
         (HasRecord bucket name.now) (TellsOf (TellsOpen bucket name.now)) result }
     ensures leaves { LeavesThroughout (W.history store.old) (W.history store.new) }
 {
-    let container = folder.copy()?;
-    let name = name.copy()?;
-    let request = SwiftRequest::GetObject {
-        container,
-        name,
-        range: None,
-    };
-    let reply = ask(store, request)?;
-    is_open_in_reply(alloc, &reply)
-}
-
-fn is_open_in_reply(alloc: Global, reply: &SwiftReply) -> Result<bool, PlanFault>
-    ensures due { Gives result (open_due reply.now) }
-    ensures own { result ≢ Err fault.Failed }
-{
-    match reply {
-        SwiftReply::Bytes { body, .. } => is_open_in_text(alloc, body.as_slice()),
-        _ => Err(PlanFault::Inconsistent),
-    }
-}
-
-fn is_open_in_text(alloc: Global, text: &[u8]) -> Result<bool, PlanFault>
-    ensures due { Gives result (open_by (read_record text.now)) }
-    ensures own { result ≢ Err fault.Failed }
-{
-    match Record::read(alloc, text) {
-        Ok(record) => {
-            let opened = is_open_record(&record);
-            drop(record);
-            Ok(opened)
-        }
-        Err(RecordFault::Memory) => Err(PlanFault::Memory),
-        Err(RecordFault::NotARecord) => Err(PlanFault::Inconsistent),
-        Err(RecordFault::Version(_)) => Err(PlanFault::Inconsistent),
-    }
+    let record = get_listed_record(alloc, store, folder, name)?;
+    let opened = is_open_record(&record);
+    drop(record);
+    Ok(opened)
 }
 
 fn is_open_record(told: &Record) -> bool

@@ -10,7 +10,8 @@ use Rattle.account_calls.specs.Calls.{always, Asks}
 use Rattle.account_calls.specs.Listing.{TellsOf}
 use Rattle.sweep.specs.declared.forget.Fate.TheVariants.{Left, Forgotten, Migrated}
 use Rattle.sweep.specs.declared.forget.Aged.{Aged}
-use Rattle.sweep.specs.Aging.{Forgetting, HasFile, HasRecord, TellsAged, TellsGone, TellsRecord, fate, old_among}
+use Rattle.sweep.specs.Aging.{Forgetting, HasFile, HasRecord, TellsAged, TellsGone, fate, old_among}
+use Rattle.leftovers.specs.Records.{TellsRecord}
 use Rattle.sweep.proofs.ForgetCalls.{forgetting_idle, forgetting_quiet, forgetting_quiet_failed, forgetting_then, forgetting_told, forgetting_vain, no_olds}
 use Rattle.sweep.proofs.Fates.{olds_left, olds_migrated, tells_forgotten, tells_left, tells_migrated}
 

@@ -1,10 +1,9 @@
 -- The record of one name goes, or is put anew with its moment.
-use Rattle.std.specs.Prelude.{◌≡◌, ◌≤◌, ◌+◌, ◌||◌, ◌&&◌, ◌-◌, ℕ, Bool, true, false, cond, bytes_eq, is_some, List, [], ◌∷◌, map, length, Option, None, Some, Ok, Err}
+use Rattle.std.specs.Prelude.{◌≡◌, ◌≤◌, ◌+◌, ◌||◌, ◌-◌, ℕ, Bool, true, false, cond, bytes_eq, is_some, List, [], ◌∷◌, map, length, Option, None, Some, Ok, Err}
 use Rattle.std.specs.Option.{option_and_then, option_map}
 use Rattle.std.specs.FinMap.{contains_key, get, insert, len, len-insert, len-remove, remove}
 use Rattle.std.proofs.Common.{refl, sym, ap, subst, ◌∙◌, inl, arith, true≢false}
 use Rattle.std.proofs.lemmas.Map.Text.{is_eq-slice_cmp}
-use Rattle.std.proofs.lemmas.Option.{same_Some}
 use Rattle.std.proofs.lemmas.Slice.Eq.{bytes_eq-Decides}
 use Rattle.gate_base.specs.Maps.{Names, adjust}
 use Rattle.gate_base.proofs.lemmas.Maps.{by_name, name_total, some_value, at_adjust, at_insert, off_insert, at_remove, off_remove}
@@ -14,18 +13,15 @@ use Rattle.s3_machine.specs.ETag.{body_etag}
 use Rattle.s3_machine.specs.State.{State}
 use Rattle.s3_machine.specs.declared.operation.Listed.{Listed}
 use Rattle.swift_calls.specs.Account.{SwiftObject, SwiftContainer, SwiftAccount, files, find_object, on_files, put_file, remove_file}
-use Rattle.swift_calls.specs.Bodies.{bytes_of, head_of, plain_bytes}
-use Rattle.swift_calls.specs.Step.{Fit, IsContainerName, body_reply, delete_object, get_reply, put_object, swift_step}
+use Rattle.swift_calls.specs.Step.{Fit, IsContainerName, delete_object, put_object, swift_step}
 use Rattle.swift_calls.specs.declared.calls.SwiftRequest.{SwiftRequest}
-use Rattle.swift_calls.specs.declared.calls.SwiftRequest.TheVariants.{DeleteObject, GetObject, PutObject}
-use Rattle.swift_calls.specs.declared.calls.SwiftReply.{SwiftReply}
-use Rattle.upload_texts.specs.Records.{has_record_text, read_record, record_in, record_text}
-use Rattle.upload_texts.specs.Places.{json_or_null}
+use Rattle.swift_calls.specs.declared.calls.SwiftRequest.TheVariants.{DeleteObject, PutObject}
+use Rattle.upload_texts.specs.Records.{read_record}
 use Rattle.upload_texts.specs.declared.record.Record.{Record}
 use Rattle.upload_texts.specs.declared.record.Record.TheVariants.{Open, Done}
 use Rattle.upload_records.specs.Layout.{uploads_name}
 use Rattle.upload_records.specs.Native.{IsSettled, record_at, record_of, s3_state}
-use Rattle.upload_records.specs.Consistent.{IsBeside, IsConsistent, IsRecord, IsStored, IsThere}
+use Rattle.upload_records.specs.Consistent.{IsBeside, IsConsistent, IsStored, IsThere}
 use Rattle.upload_records.specs.Laws.{IsQuiet, file_put}
 use Rattle.upload_records.proofs.lemmas.Beside.{file_off, files_new, records_there, same_beside}
 use Rattle.upload_records.proofs.lemmas.Objects.{delete_leaves, put_leaves}
@@ -35,49 +31,24 @@ use Rattle.account_calls.specs.declared.fault.PlanFault.TheVariants.{Inconsisten
 use Rattle.account_calls.specs.Interpret.{gone_due, stored_due}
 use Rattle.account_calls.proofs.lemmas.Etags.{etag_agrees}
 use Rattle.account_calls.proofs.lemmas.Names.{object_name}
-use Rattle.account_calls.proofs.lemmas.One.{IsReadingOf, LeavesSettled}
+use Rattle.account_calls.proofs.lemmas.One.{LeavesSettled}
 use Rattle.account_calls.proofs.lemmas.Quiet.{IsQuietOf, QuietEffect}
-use Rattle.sweep.specs.Aging.{Ages, HasFile, HasRecord, TellsGone, TellsRecord, aged, aging_due, dated, is_in, is_old, most_record_text, old_among, record_beside, record_by, record_type}
+use Rattle.sweep.specs.Aging.{Ages, HasFile, HasRecord, TellsGone, aged, dated, is_in, is_old, most_record_text, old_among, record_beside, record_type}
 use Rattle.sweep.specs.Forgetting.{forget_kept, is_undated, without_kept}
 use Rattle.sweep.specs.Laws.{HasDone}
 use Rattle.sweep.proofs.ForgetOne.{ForgetEffect, IsForgetOf}
 use Rattle.sweep.proofs.KeptRecords.{kept_dated, kept_forgotten}
+use Rattle.leftovers.specs.Gathering.{HasRecord as HasListed}
 use Rattle.leftovers.proofs.lemmas.Touched.{touches_none}
 
--- ---- GET of a record
+-- ---- the file of a record
 
-record_file : (name : List ℕ) (file : SwiftObject) (kept : IsRecord name file) → record_of file ≡ Some kept.is
-record_file name file kept = ap (λ c. option_and_then read_record (plain_bytes c)) kept.own ∙ kept.reads
-
-module _ (tree : SwiftAccount) (bucket name : List ℕ) (is : is_bucket bucket ≡ true) (sound : IsConsistent tree) (there : IsThere tree bucket) where
-  told_by : (o : Option SwiftObject) → find_object tree (uploads_name bucket) name ≡ o → is_some o ≡ true → (reply : SwiftReply) → reply ≡ get_reply (find_object tree) None o
-      → (told : Record) × (aging_due reply ≡ Ok told) × TellsRecord bucket name tree told
-  told_by None none never reply e = cc
-  told_by (Some file) found some reply e =
-      let kept = (sound.buckets bucket is there).of_records name file found in (
-        kept.is,
-        ap aging_due e ∙ (λ i. aging_due (body_reply (head_of file) None (bytes_of (find_object tree) (kept.own i)))) ∙ ap record_by kept.reads,
-        sym (ap (option_and_then record_of) found ∙ record_file name file kept),
-      )
-
-pub aging_reads : {container name under : List ℕ} (bucket : List ℕ) → container ≡ uploads_name bucket → name ≡ under → is_bucket bucket ≡ true → IsReadingOf (HasFile bucket under) (GetObject container name None) aging_due (TellsRecord bucket under)
-aging_reads {under = under} bucket named same is = record {
-  leaves = λ tree. refl;
-  tells = λ tree sound has reply replied.
-      told_by tree bucket under is sound has.has.there (find_object tree (uploads_name bucket) under) refl has.there reply (replied ∙ (λ i. get_reply (find_object tree) None (find_object tree (named i) (same i))));
-}
-
--- what reads as a record has a text
-by_test : (q r : Record) (s t : Bool) → has_record_text q ≡ s → cond (s && t) (Some q) None ≡ Some r → has_record_text r ≡ true
-by_test q r true true has e = subst (λ (x : Record). has_record_text x ≡ true) (same_Some q r e) has
-by_test q r true false has e = cc
-by_test q r false t has e = cc
-
-pub record_has : (text : List ℕ) (r : Record) → read_record text ≡ Some r → has_record_text r ≡ true
-unfolding read_record
-record_has text r reads =
-    let q = record_in (json_or_null text) in
-    by_test q r (has_record_text q) (bytes_eq (record_text q) text) refl reads
+pub file_listed : (bucket name : List ℕ) (tree : SwiftAccount) → HasFile bucket name tree → HasListed bucket name tree
+file_listed bucket name tree has = by (get (files tree (uploads_name bucket)) name) refl has.there
+  where
+    by : (o : Option SwiftObject) → get (files tree (uploads_name bucket)) name ≡ o → is_some o ≡ true → HasListed bucket name tree
+    by None none never = cc
+    by (Some file) found some = record { there = has.has.there; file = file; found = found }
 
 -- ---- one name
 

@@ -7,9 +7,6 @@ use Rattle.std.specs.FinMap.{get, keys, len}
 use Rattle.s3_names.specs.Bucket.{is_bucket}
 use Rattle.swift_calls.specs.Account.{SwiftAccount, files}
 use Rattle.swift_calls.specs.History.{History, present}
-use Rattle.swift_calls.specs.declared.calls.SwiftReply.{SwiftReply}
-use Rattle.swift_calls.specs.declared.calls.SwiftReply.TheVariants.{Bytes}
-use Rattle.upload_texts.specs.Records.{read_record}
 use Rattle.upload_texts.specs.declared.record.Record.{Record}
 use Rattle.upload_texts.specs.declared.record.Record.TheVariants.{Open, Done}
 use Rattle.upload_records.specs.Layout.{uploads_name}
@@ -79,24 +76,12 @@ pub record HasFiles (bucket : List ℕ) (ids : List (List ℕ)) (tree : SwiftAcc
   pub has : HasSettled bucket tree
   pub there : AllByRecursion (λ id. is_some (get (files tree (uploads_name bucket)) id) ≡ true) ids
 
-abbrev pub TellsRecord : List ℕ → List ℕ → SwiftAccount → Record → Type 0
-TellsRecord bucket id tree told = Some told ≡ record_beside tree bucket id
-
 -- what the file of a record is put with, and the most bytes that its text has
 abbrev pub record_type : List ℕ
 record_type = codes "application/json"
 
 abbrev pub most_record_text : ℕ
 most_record_text = 2040000
-
--- GET of the file of a record that was listed
-abbrev pub record_by : Option Record → Result Record PlanFault
-record_by None = Err fault.Inconsistent
-record_by (Some told) = Ok told
-
-abbrev pub aging_due : SwiftReply → Result Record PlanFault
-aging_due (Bytes head body) = record_by (read_record body)
-aging_due _ = Err fault.Inconsistent
 
 -- a fault that names the object of a container
 abbrev pub NamesRecord : List ℕ → List ℕ → SweepFault → Type 0

@@ -1,5 +1,5 @@
 //! One record beside a bucket: an old completion is forgotten, and any other gets its moment.
-ghost use Rattle.std.specs.Prelude.{◌≡◌, ◌≢◌, ◌<◌, ◌≤◌, ◌+◌, ℕ, List, [], ◌∷◌, length, true, false, IfErr, IfOk, Err, Some};
+ghost use Rattle.std.specs.Prelude.{◌≡◌, ◌<◌, ◌≤◌, ◌+◌, ℕ, List, [], ◌∷◌, length, true, false, IfErr, IfOk, Err, Some};
 ghost use Rattle.s3_names.specs.Bucket.{is_bucket};
 ghost use Rattle.s3_names.specs.Key.{is_key};
 ghost use Rattle.swift_calls.specs.History.{budget};
@@ -8,10 +8,8 @@ ghost use Rattle.swift_calls.specs.declared.calls.SwiftRequest.TheVariants.{PutO
 ghost use Rattle.upload_texts.specs.Records.{has_record_text, read_record};
 ghost use Rattle.upload_records.specs.Layout.{uploads_name};
 ghost use Rattle.account_calls.specs.Calls.{always, Asks};
-ghost use Rattle.account_calls.specs.Interpret.{Gives};
-ghost use Rattle.account_calls.specs.Listing.{TellsOf};
 ghost use Rattle.account_calls.specs.declared.fault.PlanFault.TheVariants as fault;
-ghost use Rattle.sweep.specs.Aging.{aging_due, dated, done_fate, fate, is_old, most_record_text, old_among, record_by, record_type, Forgetting, HasFile, HasRecord, NamesRecord, TellsAged, TellsGone, TellsRecord};
+ghost use Rattle.sweep.specs.Aging.{dated, done_fate, fate, is_old, most_record_text, old_among, record_type, Forgetting, HasFile, HasRecord, NamesRecord, TellsAged, TellsGone};
 ghost use Rattle.sweep.specs.Forgetting.{is_undated};
 ghost use Rattle.sweep.specs.Swept.{as_plan, plan_of};
 ghost use Rattle.sweep.specs.Walk.{ComesOf};
@@ -19,10 +17,11 @@ ghost use Rattle.sweep.specs.Walk.{ComesOf};
 use crate::account::SweepFault;
 use account_calls::{PlanFault, ask, interpret_file_delete, interpret_put_with_etag};
 use gate_base::{Bytes, Copying, List, Memory, drop};
+use leftovers::get_listed_record;
 use s3_machine::body_etag;
 use std::alloc::Global;
-use swift_calls::{Swift, SwiftReply, SwiftRequest};
-use upload_texts::{Record, RecordFault};
+use swift_calls::{Swift, SwiftRequest};
+use upload_texts::Record;
 
 /// What was done with the records of completions.
 #[derive(Clone, Copy, Debug, PartialEq, Eq)]
@@ -42,60 +41,6 @@ pub(crate) enum Fate {
     Forgotten,
     /// It is put anew with its moment.
     Migrated,
-}
-
-/// The record of a name that was listed, by GET of its file (Object Storage API v1, "Get object content and metadata"). One that isn't
-/// there any more is inconsistent: nothing else writes the account meanwhile. At most one call.
-#[tactic(auto, using(account_calls::proofs::lemmas::Names::object_name))]
-fn get_aging_record<W: Swift>(
-    alloc: Global,
-    store: &mut W,
-    folder: &Bytes,
-    name: &Bytes,
-) -> Result<Record, PlanFault>
-    requires folder { IsContainerName folder.now }
-    requires name { is_key name.now ≡ true }
-    ensures counted { IfOk result (λ _. (W.history store.old).called < budget
-        × ((W.history store.new).called ≡ (W.history store.old).called + 1)) }
-    ensures near { (W.history store.new).called ≤ (W.history store.old).called + 1 }
-    ensures has { IfOk result (λ r. has_record_text r ≡ true) }
-    ensures asks { (bucket : List ℕ) → is_bucket bucket ≡ true → folder.now ≡ uploads_name bucket
-        → Asks (always 1) (W.history store.old) (W.history store.new)
-        (HasFile bucket name.now) (TellsOf (TellsRecord bucket name.now)) result }
-{
-    let container = folder.copy()?;
-    let name = name.copy()?;
-    let request = SwiftRequest::GetObject {
-        container,
-        name,
-        range: None,
-    };
-    let reply = ask(store, request)?;
-    aging_record_in_reply(alloc, &reply)
-}
-
-fn aging_record_in_reply(alloc: Global, reply: &SwiftReply) -> Result<Record, PlanFault>
-    ensures due { Gives result (aging_due reply.now) }
-    ensures own { result ≢ Err fault.Failed }
-    ensures has { IfOk result (λ r. has_record_text r ≡ true) }
-{
-    match reply {
-        SwiftReply::Bytes { body, .. } => aging_record_in_text(alloc, body.as_slice()),
-        _ => Err(PlanFault::Inconsistent),
-    }
-}
-
-fn aging_record_in_text(alloc: Global, text: &[u8]) -> Result<Record, PlanFault>
-    ensures due { Gives result (record_by (read_record text.now)) }
-    ensures own { result ≢ Err fault.Failed }
-    ensures has { IfOk result (λ r. has_record_text r ≡ true) }
-{
-    match Record::read(alloc, text) {
-        Ok(record) => Ok(record),
-        Err(RecordFault::Memory) => Err(PlanFault::Memory),
-        Err(RecordFault::NotARecord) => Err(PlanFault::Inconsistent),
-        Err(RecordFault::Version(_)) => Err(PlanFault::Inconsistent),
-    }
 }
 
 /// What is to be done with a record: a completion is old whose moment, or without one the start of its upload, is before this one.
@@ -304,7 +249,7 @@ fn forget_record<W: Swift>(
     ensures forgets { Forgetting (W.history store.old) (W.history store.new) (HasFile bucket.now name.now)
         (old_among before bucket.now (name.now ∷ [])) (TellsAged before bucket.now (name.now ∷ [])) result }
 {
-    let told = get_aging_record(alloc, store, folder, name)?;
+    let told = get_listed_record(alloc, store, folder, name)?;
     age_record(alloc, store, bucket, folder, name, told, before)
 }
 

@@ -1,24 +1,16 @@
-use Rattle.std.proofs.Common.{refl, ◌∙◌}
-use Rattle.account_calls.proofs.lemmas.One.{not_asked, asked_of, asked_of_in_vain}
-use Rattle.account_calls.proofs.lemmas.Left.{throughout_none, throughout_one}
-use Rattle.leftovers.proofs.Listings.{open_reads}
+use Rattle.std.proofs.Common.{ap, ◌∙◌}
+use Rattle.account_calls.proofs.lemmas.Ask.{asks_fault, asks_told}
+use Rattle.leftovers.specs.Leftovers.{is_open}
 use Rattle.leftovers.proofs.gathering.is_open_upload.Goals as goal
 
-pub returns-in_err-container : goal.returns-in_err-container
-returns-in_err-container g c = record { asks = λ bucket is of. not_asked _ _ _ c.from_residual.ensures.1; leaves = throughout_none (g.W.Swift.history c.args.store.now) }
-
-pub returns-in_err-name : goal.returns-in_err-name
-returns-in_err-name g c = record { asks = λ bucket is of. not_asked _ _ _ c.from_residual-in_err-name.ensures.1; leaves = throughout_none (g.W.Swift.history c.args.store.now) }
-
-pub returns-in_err-reply : goal.returns-in_err-reply
-returns-in_err-reply g c = record {
-  asks = λ bucket is of. asked_of_in_vain (open_reads bucket (c.in_ok-container.ensures ∙ of) c.in_ok-name.ensures is) c.in_err-reply.ensures _ c.from_residual-in_err-reply.ensures.1;
-  leaves = throughout_one (λ tree. refl) c.in_err-reply.ensures;
+pub returns-in_err-record : goal.returns-in_err-record
+returns-in_err-record g c = record {
+  asks = λ bucket is of. asks_fault (λ tree has. has) (c.in_err-record.ensures.asks bucket is of) _ c.from_residual.ensures.1;
+  leaves = c.in_err-record.ensures.leaves;
 }
 
 pub returns : goal.returns
 returns g c = record {
-  asks = λ bucket is of.
-      asked_of (open_reads bucket (c.in_ok-container.ensures ∙ of) c.in_ok-name.ensures is) c.in_ok-reply.ensures _ c.is_open_in_reply.ensures.due c.is_open_in_reply.ensures.own;
-  leaves = throughout_one (λ tree. refl) c.in_ok-reply.ensures;
+  asks = λ bucket is of. asks_told (λ tree has. has) _ (λ tree sound has told. c.is_open_record.ensures ∙ ap is_open told) (c.in_ok-record.ensures.asks bucket is of);
+  leaves = c.in_ok-record.ensures.leaves;
 }
