@@ -11,6 +11,6 @@ returns-in_err-record g c = record {
 
 pub returns : goal.returns
 returns g c = record {
-  asks = λ bucket is of. asks_told (λ tree has. has) _ (λ tree sound has told. c.is_open_record.ensures ∙ ap is_open told) (c.in_ok-record.ensures.asks bucket is of);
+  asks = λ bucket is of. asks_told (λ tree has. has) _ (λ tree sound has told. c.is_open_record-opened.ensures ∙ ap is_open told) (c.in_ok-record.ensures.asks bucket is of);
   leaves = c.in_ok-record.ensures.leaves;
 }
