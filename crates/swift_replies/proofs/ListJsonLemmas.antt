@@ -1,29 +1,25 @@
 -- The text of a listing is read as the JSON that it was written for, and that as the listing.
-use Rattle.std.proofs.Common.{◌≡◌, ℕ, ◌^◌, ◌<◌, ◌≤◌, Bool, true, false, List, [], ◌∷◌, ◌++◌, map, codes, decimal, IsUtf8, Option, Some, option_map, option_and_then, refl, sym, ap, ◌∙◌, arith, append-nil}
+use Rattle.std.proofs.Common.{◌≡◌, ℕ, ◌^◌, ◌<◌, ◌≤◌, Bool, true, false, List, [], ◌∷◌, ◌++◌, map, codes, decimal, IsUtf8, Option, Some, option_and_then, refl, sym, ap, ◌∙◌, arith, lit≤}
 use Rattle.std.specs.Prelude.{⊤}
 use Rattle.std.specs.List.{list_all}
 use Rattle.std.specs.Str.{is_utf8}
 use Rattle.std.proofs.lemmas.Bool.{and_parts}
 use Rattle.std.proofs.lemmas.Fmt.{IsAscii-decimal}
 use Rattle.std.proofs.lemmas.Str.{IsUtf8-append, IsUtf8-from_ascii, IsUtf8-from_is_utf8, IsUtf8-nil}
+use Rattle.json.specs.Find.{as_array}
 use Rattle.json.specs.Json as json
-use Rattle.json.specs.Lex.{tokens}
 use Rattle.json.specs.Print.{quoted}
-use Rattle.json.specs.Token.{Token}
 use Rattle.json.specs.Tree as tree
 use Rattle.json.proofs.Printed.Decimals.{IsNumber-decimal}
-use Rattle.json.proofs.Printed.Tokens.{tokens-print}
-use Rattle.json.proofs.Printed.Trees.{value-json_tokens, ArePrintable-json_tokens}
+use Rattle.json.proofs.Printed.Trees.{document-print}
 use Rattle.json.proofs.Printed.Utf8.{are_ascii, IsUtf8-are_ascii, IsUtf8-quoted}
 use Rattle.serde_json.specs.Data.{Data, array, Items, no_items, item}
-use Rattle.serde_json.specs.Find.{as_array}
-use Rattle.serde_json.specs.Read.{of_json, of_items, read, max_depth}
 use Rattle.serde_json.specs.View.{items_of}
 use Rattle.serde_json.specs.Written.{outline, items_outline, comma_if, compact_text, items_text}
-use Rattle.serde_json.proofs.Numbers.{number_of-decimal}
 use Rattle.serde_json.proofs.Texts.{print-outline}
 use Rattle.swift_calls.specs.declared.heads.NameItem.{NameItem}
-use Rattle.swift_replies.specs.Answers.{each, container_name, name_item, items_in}
+use Rattle.text_forms.proofs.lemmas.Decimals.{number_of_decimal}
+use Rattle.swift_replies.specs.Answers.{each, container_name, item_from, name_item, items_in}
 use Rattle.swift_replies.specs.AnswerText.{container_value, item_value, is_spelled_name_item, list_text}
 use Rattle.swift_replies.proofs.ListLemmas.{json_read}
 use Rattle.swift_replies.proofs.ListTextLemmas.{parts_of}
@@ -50,9 +46,8 @@ closed = IsUtf8-are_ascii (125 ∷ []) refl
 
 -- ---- a list of entries
 
--- an entry that is read as it is written
+-- an entry whose text is read as the JSON that it is the outline of
 pub record IsRead (d : Data) : Type 0 where
-  pub value : of_json (outline d) ≡ Some d
   pub numbers : tree.HasNumbers (outline d)
   pub flat : tree.depth (outline d) ≡ 1
   pub text : IsUtf8 (compact_text d)
@@ -60,10 +55,6 @@ pub record IsRead (d : Data) : Type 0 where
 abbrev AreRead : Items → Type 0
 AreRead no_items = ⊤
 AreRead (item d ds) = IsRead d × AreRead ds
-
-items_value : (ds : Items) → AreRead ds → of_items (items_outline ds) ≡ Some ds
-items_value no_items all = refl
-items_value (item d ds) all = rw (all.0.value, items_value ds all.1) refl
 
 items_numbers : (ds : Items) → AreRead ds → tree.ItemsHaveNumbers (items_outline ds)
 items_numbers no_items all = tt
@@ -78,31 +69,24 @@ items_utf8 later no_items all = IsUtf8-are_ascii (93 ∷ []) refl
 items_utf8 later (item d ds) all =
     IsUtf8-append (comma_if later) _ (comma later) (IsUtf8-append (compact_text d) _ all.0.text (items_utf8 true ds all.1))
 
--- what is read, where it is all that there is
-abbrev whole : Option (json.Json × List Token) → Option Data
-whole found = option_and_then of_json (option_and_then (λ p. json.if_last p.0 p.1) found)
-
-text_value : (ds : Items) → AreRead ds → read (compact_text (array ds)) ≡ Some (array ds)
+text_value : (ds : Items) → AreRead ds → json.document (compact_text (array ds)) ≡ Some (outline (array ds))
 text_value ds all =
-    let printed : tokens (compact_text (array ds)) ≡ tree.json_tokens (outline (array ds)) =
-    ap tokens (sym (print-outline (array ds))) ∙ tokens-print _ (ArePrintable-json_tokens (outline (array ds)) (items_numbers ds all)) in
-    let shallow : tree.depth (outline (array ds)) ≤ max_depth = omega (arith, items_flat ds all) in
-    ap whole (ap (json.value max_depth) (printed ∙ sym (append-nil _)) ∙ value-json_tokens (outline (array ds)) max_depth [] shallow)
-    ∙ ap (option_map array) (items_value ds all)
+    let shallow : tree.depth (outline (array ds)) ≤ json.max_depth = omega (arith, items_flat ds all) in
+    ap json.document (sym (print-outline (array ds))) ∙ document-print (outline (array ds)) (items_numbers ds all) shallow
 
-items_back : (ds : Items) → AreRead ds → items_in (compact_text (array ds)) ≡ Some ds
+items_back : (ds : Items) → AreRead ds → items_in (compact_text (array ds)) ≡ Some (items_outline ds)
 items_back ds all =
-    ap (option_and_then as_array) (sym (json_read (compact_text (array ds)) (array ds) (behind 91 _ refl (items_utf8 false ds all)) (text_value ds all)))
+    ap (option_and_then as_array) (sym (json_read (compact_text (array ds)) (outline (array ds)) (behind 91 _ refl (items_utf8 false ds all)) (text_value ds all)))
 
-module _ {X : Type 0} (test : X → Bool) (entry : X → Data) (f : Data → Option X)
-    (written : (x : X) → test x ≡ true → IsRead (entry x)) (back : (x : X) → test x ≡ true → f (entry x) ≡ Some x) where
+module _ {X : Type 0} (test : X → Bool) (entry : X → Data) (f : json.Json → Option X)
+    (written : (x : X) → test x ≡ true → IsRead (entry x)) (back : (x : X) → test x ≡ true → f (outline (entry x)) ≡ Some x) where
   are_read : (xs : List X) → list_all test xs ≡ true → AreRead (items_of (map entry xs))
   are_read [] all = tt
   are_read (x ∷ xs) all =
       let parts = and_parts (test x) (list_all test xs) all in
       (written x parts.0, are_read xs parts.1)
 
-  each_back : (xs : List X) → list_all test xs ≡ true → each f (items_of (map entry xs)) ≡ Some xs
+  each_back : (xs : List X) → list_all test xs ≡ true → each f (items_outline (items_of (map entry xs))) ≡ Some xs
   unfolding each
   each_back [] all = refl
   each_back (x ∷ xs) all =
@@ -124,9 +108,11 @@ utf8_text text fine = IsUtf8-quoted text (IsUtf8-from_is_utf8 text fine)
 zero_fits : 0 < 2 ^ 64
 zero_fits = omega arith
 
+parts_fit : (n : ℕ) → n < 10 ^ 19 → n < 2 ^ 64
+parts_fit n fits = omega (arith, fits)
+
 pub container_read : (name : List ℕ) → is_utf8 name ≡ true → IsRead (container_value name)
 container_read name fine = record {
-  value = rw (number_of-decimal 0 zero_fits) refl;
   numbers = (IsNumber-decimal 0 zero_fits, (IsNumber-decimal 0 zero_fits, (tt, tt)));
   flat = refl;
   text =
@@ -136,24 +122,25 @@ container_read name fine = record {
       (one_member true (codes "name") _ _ refl (utf8_text name fine) closed)));
 }
 
-pub container_back : (name : List ℕ) → is_utf8 name ≡ true → container_name (container_value name) ≡ Some name
+pub container_back : (name : List ℕ) → is_utf8 name ≡ true → container_name (outline (container_value name)) ≡ Some name
 container_back name fine = refl
 
 pub item_read : (i : NameItem) → is_spelled_name_item i ≡ true → IsRead (item_value i)
 item_read i fine =
     let parts = parts_of i fine in
     record {
-      value = rw (number_of-decimal i.size parts.size) refl;
-      numbers = (IsNumber-decimal i.size parts.size, (tt, (tt, (tt, (tt, tt)))));
+      numbers = (IsNumber-decimal i.size (parts_fit i.size parts.size), (tt, (tt, (tt, (tt, tt)))));
       flat = refl;
       text =
           behind 123 _ refl
-          (one_member false (codes "bytes") _ _ refl (utf8_number i.size parts.size)
+          (one_member false (codes "bytes") _ _ refl (utf8_number i.size (parts_fit i.size parts.size))
           (one_member true (codes "content_type") _ _ refl (utf8_text i.content_type parts.content_type)
           (one_member true (codes "hash") _ _ refl (utf8_text i.hash parts.hash)
           (one_member true (codes "last_modified") _ _ refl (IsUtf8-quoted _ (IsUtf8-are_ascii (codes "1970-01-01T00:00:00.000000") refl))
           (one_member true (codes "name") _ _ refl (utf8_text i.name parts.name) closed)))));
     }
 
-pub item_back : (i : NameItem) → is_spelled_name_item i ≡ true → name_item (item_value i) ≡ Some i
-item_back i fine = refl
+pub item_back : (i : NameItem) → is_spelled_name_item i ≡ true → name_item (outline (item_value i)) ≡ Some i
+item_back i fine =
+    let parts = parts_of i fine in
+    ap (λ size. item_from (Some i.name) (Some i.hash) size (Some i.content_type)) (number_of_decimal 19 i.size (lit≤ tt) parts.size (parts_fit i.size parts.size))

@@ -3,27 +3,25 @@ use Rattle.std.proofs.Common.{◌≡◌, ℕ, zero, suc, ◌+◌, ◌<◌, ◌�
 use Rattle.std.specs.Str.{IsUtf8, is_utf8}
 use Rattle.std.proofs.lemmas.Str.{is_utf8-from_IsUtf8, IsUtf8-from_is_utf8}
 use Rattle.std.proofs.lemmas.List.{take_more, take_all}
-use Rattle.serde_json.specs.Data.{Data, no_items}
-use Rattle.serde_json.specs.Find.{as_array}
-use Rattle.serde_json.specs.Read.{read}
-use Rattle.serde_json.specs.View.{view, items_view}
-use Rattle.serde_json.specs.declared.value.Value.{Value}
-use Rattle.slo_manifest.specs.Manifest.{json_of}
-use Rattle.swift_replies.specs.Answers.{both, each, items_in}
+use Rattle.json.specs.Find.{as_array}
+use Rattle.json.specs.Json.{Json, no_items, document}
+use Rattle.json.specs.Value.{value_view, items_view}
+use Rattle.json.specs.declared.value.Value.{Value}
+use Rattle.swift_replies.specs.Answers.{both, each, items_in, listing_json}
 
 -- ---- the JSON of a text
 
-pub json_read : (text : List ℕ) (json : Data) → IsUtf8 text → read text ≡ Some json → Some json ≡ json_of text
+pub json_read : (text : List ℕ) (json : Json) → IsUtf8 text → document text ≡ Some json → Some json ≡ listing_json text
 json_read text json utf8 h = rw (is_utf8-from_IsUtf8 text utf8) (sym h)
 
-refused_at : (b : Bool) (text : List ℕ) → is_utf8 text ≡ b → (IsUtf8 text → read text ≡ None) → None ≡ cond b (read text) None
+refused_at : (b : Bool) (text : List ℕ) → is_utf8 text ≡ b → (IsUtf8 text → document text ≡ None) → None ≡ cond b (document text) None
 refused_at true text e h = sym (h (IsUtf8-from_is_utf8 text e))
 refused_at false text e h = refl
 
-abbrev no_json : Option Data
+abbrev no_json : Option Json
 no_json = None
 
-pub json_refused : (text : List ℕ) → (IsUtf8 text → read text ≡ None) → no_json ≡ json_of text
+pub json_refused : (text : List ℕ) → (IsUtf8 text → document text ≡ None) → no_json ≡ listing_json text
 json_refused text h = refused_at (is_utf8 text) text refl h
 
 -- ---- entries
@@ -31,15 +29,15 @@ json_refused text h = refused_at (is_utf8 text) text refl h
 abbrev nothing : {A : Type 0} → Option (List A)
 nothing = None
 
-pub listed_no_json : {A : Type 0} (f : Data → Option A) (text : List ℕ) → no_json ≡ json_of text → nothing ≡ option_and_then (each f) (items_in text)
+pub listed_no_json : {A : Type 0} (f : Json → Option A) (text : List ℕ) → no_json ≡ listing_json text → nothing ≡ option_and_then (each f) (items_in text)
 listed_no_json f text none = ap (λ json. option_and_then (each f) (option_and_then as_array json)) none
 
-pub listed_no_list : {A : Type 0} (f : Data → Option A) (text : List ℕ) (json : Data) → Some json ≡ json_of text → as_array json ≡ None
+pub listed_no_list : {A : Type 0} (f : Json → Option A) (text : List ℕ) (json : Json) → Some json ≡ listing_json text → as_array json ≡ None
     → nothing ≡ option_and_then (each f) (items_in text)
 listed_no_list f text json some none =
     ap (option_and_then (each f)) (sym none) ∙ ap (λ found. option_and_then (each f) (option_and_then as_array found)) some
 
-pub listed : {A : Type 0} (f : Data → Option A) (text : List ℕ) (json : Data) (values : List Value) → Some json ≡ json_of text
+pub listed : {A B : Type 0} (f : Json → Option A) (text : List ℕ) (json : Json) (values : List (Value B)) → Some json ≡ listing_json text
     → as_array json ≡ Some (items_view values) → each f (items_view values) ≡ option_and_then (each f) (items_in text)
 listed f text json values some list =
     ap (option_and_then (each f)) (sym list) ∙ ap (λ found. option_and_then (each f) (option_and_then as_array found)) some
@@ -62,40 +60,40 @@ front_back (Some a) None o = refl
 front_back (Some a) (Some firsts) None = refl
 front_back (Some a) (Some firsts) (Some last) = refl
 
-each_back : {A : Type 0} (f : Data → Option A) (values : List Value) (value : Value)
-    → each f (items_view (values ++ value ∷ [])) ≡ back (each f (items_view values)) (f (view value))
+each_back : {A B : Type 0} (f : Json → Option A) (values : List (Value B)) (value : Value B)
+    → each f (items_view (values ++ value ∷ [])) ≡ back (each f (items_view values)) (f (value_view value))
 unfolding each
-each_back f [] value = one_back (f (view value))
+each_back f [] value = one_back (f (value_view value))
 each_back f (v ∷ values) value =
-    ap (front (f (view v))) (each_back f values value) ∙ front_back (f (view v)) (each f (items_view values)) (f (view value))
+    ap (front (f (value_view v))) (each_back f values value) ∙ front_back (f (value_view v)) (each f (items_view values)) (f (value_view value))
 
 -- no entry yet
-pub each_start : {A : Type 0} (f : Data → Option A) (firsts : List A) → firsts ≡ [] → each f no_items ≡ Some firsts
+pub each_start : {A : Type 0} (f : Json → Option A) (firsts : List A) → firsts ≡ [] → each f no_items ≡ Some firsts
 unfolding each
 each_start f firsts none = ap Some (sym none)
 
 -- one entry more
-pub each_more : {A : Type 0} (f : Data → Option A) (values : List Value) (i : ℕ) (value : Value) (firsts : List A) (last : A)
-    → each f (items_view (take i values)) ≡ Some firsts → i < length values → value ≡ get_or values i value → f (view value) ≡ Some last
+pub each_more : {A B : Type 0} (f : Json → Option A) (values : List (Value B)) (i : ℕ) (value : Value B) (firsts : List A) (last : A)
+    → each f (items_view (take i values)) ≡ Some firsts → i < length values → value ≡ get_or values i value → f (value_view value) ≡ Some last
     → each f (items_view (take (i + 1) values)) ≡ Some (firsts ++ last ∷ [])
 each_more f values i value firsts last upto within same is =
     ap (λ vs. each f (items_view vs)) (take_more values i value within ∙ ap (λ v. take i values ++ v ∷ []) (sym same))
-    ∙ each_back f (take i values) value ∙ ap (λ rest. back rest (f (view value))) upto ∙ ap (back (Some firsts)) is
+    ∙ each_back f (take i values) value ∙ ap (λ rest. back rest (f (value_view value))) upto ∙ ap (back (Some firsts)) is
 
 front_none : {A : Type 0} (o : Option A) → nothing ≡ front o None
 front_none None = refl
 front_none (Some a) = refl
 
 -- an entry that says nothing
-pub each_none : {A : Type 0} (f : Data → Option A) (values : List Value) (i : ℕ) (value : Value)
-    → i < length values → value ≡ get_or values i value → f (view value) ≡ None → nothing ≡ each f (items_view values)
+pub each_none : {A B : Type 0} (f : Json → Option A) (values : List (Value B)) (i : ℕ) (value : Value B)
+    → i < length values → value ≡ get_or values i value → f (value_view value) ≡ None → nothing ≡ each f (items_view values)
 unfolding each
 each_none f [] i value within same none = absurd (omega (arith, within))
 each_none f (v ∷ values) zero value within same none =
-    sym (ap (λ o. front o (each f (items_view values))) (ap (λ x. f (view x)) (sym same) ∙ none))
+    sym (ap (λ o. front o (each f (items_view values))) (ap (λ x. f (value_view x)) (sym same) ∙ none))
 each_none f (v ∷ values) (suc i) value within same none =
-    front_none (f (view v)) ∙ ap (front (f (view v))) (each_none f values i value (omega (arith, within)) same none)
+    front_none (f (value_view v)) ∙ ap (front (f (value_view v))) (each_none f values i value (omega (arith, within)) same none)
 
-pub each_all : {A : Type 0} (f : Data → Option A) (values : List Value) (i : ℕ) (firsts : List A)
+pub each_all : {A B : Type 0} (f : Json → Option A) (values : List (Value B)) (i : ℕ) (firsts : List A)
     → each f (items_view (take i values)) ≡ Some firsts → length values ≤ i → Some firsts ≡ each f (items_view values)
 each_all f values i firsts upto past = sym upto ∙ ap (λ vs. each f (items_view vs)) (take_all i values past)

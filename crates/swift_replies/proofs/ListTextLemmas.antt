@@ -19,14 +19,14 @@ pub record Parts (i : NameItem) : Type 0 where
   pub name : is_utf8 i.name ≡ true
   pub hash : is_utf8 i.hash ≡ true
   pub content_type : is_utf8 i.content_type ≡ true
-  pub size : i.size < 2 ^ 64
+  pub size : i.size < 10 ^ 19
 
 pub parts_of : (i : NameItem) → is_spelled_name_item i ≡ true → Parts i
 parts_of i fine =
     let first = and_parts (is_utf8 i.name) _ fine in
     let second = and_parts (is_utf8 i.hash) _ first.1 in
     let third = and_parts (is_utf8 i.content_type) _ second.1 in
-    record { name = first.0; hash = second.0; content_type = third.0; size = ltb-true i.size (2 ^ 64) third.1 }
+    record { name = first.0; hash = second.0; content_type = third.0; size = ltb-true i.size (10 ^ 19) third.1 }
 
 pub name_is_utf8 : (i : NameItem) → is_spelled_name_item i ≡ true → is_utf8 i.name ≡ true
 name_is_utf8 i fine = (parts_of i fine).name

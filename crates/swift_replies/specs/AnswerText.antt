@@ -238,9 +238,9 @@ item_by name hash size content_type =
 abbrev pub item_value : NameItem → Data
 item_value i = item_by i.name i.hash i.size i.content_type
 
--- the texts of an entry are UTF-8, as JSON has them, and its size is read as a whole number
+-- the texts of an entry are UTF-8, as JSON has them, and its size is read as a whole number, of at most 19 digits
 abbrev pub is_spelled_name_item : NameItem → Bool
-is_spelled_name_item i = is_utf8 i.name && (is_utf8 i.hash && (is_utf8 i.content_type && nat_lt i.size (2 ^ 64)))
+is_spelled_name_item i = is_utf8 i.name && (is_utf8 i.hash && (is_utf8 i.content_type && nat_lt i.size (10 ^ 19)))
 
 abbrev pub list_text : List Data → List ℕ
 list_text entries = compact_text (array (items_of entries))

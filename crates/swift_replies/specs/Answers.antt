@@ -29,12 +29,14 @@ use Rattle.std.specs.Prelude.{
   Ok,
   Err,
 }
+use Rattle.std.specs.Str.{is_utf8}
 use Rattle.gate_base.specs.declared.page.Pair.{Pair}
 use Rattle.httparse.specs.Grammar.{ResponseHead, status_code}
-use Rattle.serde_json.specs.Data.{Data, Items, no_items, item}
-use Rattle.serde_json.specs.Find.{as_array}
-use Rattle.slo_manifest.specs.Entry.{Entry, whole, bad, empty, text_at, number_at}
-use Rattle.slo_manifest.specs.Manifest.{json_of, entries_of}
+use Rattle.json.specs.Find.{get, as_array, as_number, as_str}
+use Rattle.json.specs.Json.{Json, Items, no_items, item, document}
+use Rattle.text_forms.specs.Numbers.{number_of}
+use Rattle.slo_manifest.specs.Entry.{Entry, whole, bad, empty}
+use Rattle.slo_manifest.specs.Manifest.{entries_of}
 use Rattle.slo_manifest.specs.declared.Segment.{Segment}
 use Rattle.slo_manifest.specs.declared.manifest.TheConstants.{MOST_SEGMENTS}
 use Rattle.slo_manifest.specs.declared.manifest.Form.{Form}
@@ -58,22 +60,7 @@ use Rattle.swift_calls.specs.declared.calls.SwiftRequest.TheVariants.{
 }
 use Rattle.swift_calls.specs.declared.calls.SwiftReply.{SwiftReply}
 use Rattle.swift_statuses.specs.Statuses.{missing, gone, put_reply, delete_reply}
-use Rattle.swift_calls.specs.declared.calls.SwiftReply.TheVariants.{
-  Made,
-  There,
-  Gone,
-  Stored,
-  NotFound,
-  NotEmpty,
-  BadManifest,
-  Unsatisfiable,
-  Containers,
-  Readers,
-  Names,
-  Head,
-  Bytes,
-  Manifest,
-}
+use Rattle.swift_calls.specs.declared.calls.SwiftReply.TheVariants.{Stored, NotFound, BadManifest, Unsatisfiable, Containers, Readers, Names, Head, Bytes, Manifest}
 use Rattle.http_answers.specs.Framing.{IsAnswer, headers_in}
 use Rattle.swift_replies.specs.Fields.{reply_readers_in, container_created_in, etag_in, whole_size_in, head_in, reply_segments_flag_in}
 use Rattle.http_answers.specs.Fields.{answer_content_length}
@@ -94,17 +81,29 @@ both f (Some a) None = None
 both f (Some a) (Some b) = Some (f a b)
 
 -- what f reads of each item, where it reads something of each
-unfoldable pub each : {A : Type 0} → (Data → Option A) → Items → Option (List A)
+unfoldable pub each : {A : Type 0} → (Json → Option A) → Items → Option (List A)
 each f no_items = Some []
 each f (item entry rest) = both (λ first others. first ∷ others) (f entry) (each f rest)
 
+-- the JSON of a text in UTF-8 (RFC 8259), as far as 128 levels of lists and objects
+abbrev pub listing_json : List ℕ → Option Json
+listing_json text = if is_utf8 text then document text else None
+
 -- the entries of a text, where it is a list
 abbrev pub items_in : List ℕ → Option Items
-items_in body = option_and_then as_array (json_of body)
+items_in body = option_and_then as_array (listing_json body)
+
+-- the text under a name of an object; of one that comes twice the last
+abbrev pub text_in : List ℕ → Json → Option (List ℕ)
+text_in field entry = option_and_then as_str (get field entry)
+
+-- the whole number of at most 19 digits under a name of an object
+abbrev pub number_in : List ℕ → Json → Option ℕ
+number_in field entry = option_and_then (number_of 19) (option_and_then as_number (get field entry))
 
 -- an entry of a listing of containers
-abbrev pub container_name : Data → Option (List ℕ)
-container_name entry = text_at (codes "name") entry
+abbrev pub container_name : Json → Option (List ℕ)
+container_name entry = text_in (codes "name") entry
 
 abbrev pub item_from : Option (List ℕ) → Option (List ℕ) → Option ℕ → Option (List ℕ) → Option NameItem
 item_from None hash size content_type = None
@@ -115,9 +114,9 @@ item_from (Some name) (Some hash) (Some size) (Some content_type) =
     Some (record { name = name; hash = hash; size = size; content_type = content_type })
 
 -- an entry of a listing of objects
-abbrev pub name_item : Data → Option NameItem
+abbrev pub name_item : Json → Option NameItem
 name_item entry =
-    item_from (text_at (codes "name") entry) (text_at (codes "hash") entry) (number_at (codes "bytes") entry) (text_at (codes "content_type") entry)
+    item_from (text_in (codes "name") entry) (text_in (codes "hash") entry) (number_in (codes "bytes") entry) (text_in (codes "content_type") entry)
 
 abbrev pub container_names : List ℕ → Option (List (List ℕ))
 container_names body = option_and_then (each container_name) (items_in body)

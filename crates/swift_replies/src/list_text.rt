@@ -11,6 +11,9 @@ use std::alloc::{AllocError, Global};
 use swift_calls::NameItem;
 use text_forms::{is_utf8, text_of};
 
+/// Each number from this one on has 20 digits.
+const SIZE_LIMIT: u64 = 10_000_000_000_000_000_000;
+
 /// The text of a listing of containers; none where a name isn't UTF-8.
 pub(crate) fn containers_text(alloc: Global, names: &[Bytes]) -> Result<Option<Bytes>, Memory>
     ensures { IfOk result (λ text. text ≡ (if list_all is_utf8 names.now then Some
@@ -55,11 +58,11 @@ fn is_spelled_name_item(item: &NameItem) -> bool
             && (is_utf8(item.content_type.as_slice()) && is_spelled_item_size(item.size)))
 }
 
-/// Whether a size is read as a whole number, which each `u64` is.
+/// Whether a size is read as a whole number: one of at most 19 digits is.
 fn is_spelled_item_size(size: u64) -> bool
-    ensures { result ≡ nat_lt size (2 ^ 64) }
+    ensures { result ≡ nat_lt size (10 ^ 19) }
 {
-    true
+    size < SIZE_LIMIT
 }
 
 #[tactic(auto, using(crate::proofs::ListTextLemmas::passes, crate::proofs::ListTextLemmas::map_more))]

@@ -1,24 +1,28 @@
 //! Listings in JSON, as they are read.
 ghost use Rattle.std.specs.Prelude.{◌≡◌, option_map, IfOk};
-ghost use Rattle.serde_json.specs.View.{view, items_view};
-ghost use Rattle.slo_manifest.specs.Entry.{text_at, number_at};
-ghost use Rattle.slo_manifest.specs.Manifest.{json_of};
-ghost use Rattle.swift_replies.specs.Answers.{each, container_name, name_item, container_names, name_items};
+ghost use Rattle.json.specs.Find.{as_array};
+ghost use Rattle.json.specs.Value.{value_view, items_view};
+ghost use Rattle.swift_replies.specs.Answers.{each, container_name, name_item, container_names, listing_json, name_items, number_in, text_in};
 
 use gate_base::{Bytes, List, Memory};
-use serde_json::{Category, Value};
+use json::{Error, Scratch, Value};
 use std::alloc::Global;
 use swift_calls::NameItem;
+use text_forms::number_of;
+
+/// The most digits of a size.
+const MOST_DIGITS: usize = 19;
 
 /// The names of a listing of containers; none where the text is no such listing.
 #[tactic(auto, using(crate::proofs::ListLemmas::listed_no_json, crate::proofs::ListLemmas::listed_no_list, crate::proofs::ListLemmas::listed))]
 pub(crate) fn container_names(alloc: Global, body: &[u8]) -> Result<Option<List<Bytes>>, Memory>
     ensures { IfOk result (λ names. names ≡ container_names body.now) }
 {
-    let Some(value) = listing_json_in(alloc, body)? else {
+    let mut scratch = Scratch::new(alloc);
+    let Some(value) = listing_json_in(alloc, body, &mut scratch)? else {
         return Ok(None);
     };
-    let Some(entries) = value.as_array() else {
+    let Some(entries) = listing_json_entries(&value) else {
         return Ok(None);
     };
     container_names_in_json_entries(alloc, entries)
@@ -29,33 +33,47 @@ pub(crate) fn container_names(alloc: Global, body: &[u8]) -> Result<Option<List<
 pub(crate) fn name_items(alloc: Global, body: &[u8]) -> Result<Option<List<NameItem>>, Memory>
     ensures { IfOk result (λ items. items ≡ name_items body.now) }
 {
-    let Some(value) = listing_json_in(alloc, body)? else {
+    let mut scratch = Scratch::new(alloc);
+    let Some(value) = listing_json_in(alloc, body, &mut scratch)? else {
         return Ok(None);
     };
-    let Some(entries) = value.as_array() else {
+    let Some(entries) = listing_json_entries(&value) else {
         return Ok(None);
     };
     name_items_in_json_entries(alloc, entries)
 }
 
-/// The JSON of a text.
+/// The JSON of a text. Its texts are borrowed, so that no entry takes memory but for its members.
 #[tactic(auto, using(crate::proofs::ListLemmas::json_read, crate::proofs::ListLemmas::json_refused))]
-fn listing_json_in(alloc: Global, bytes: &[u8]) -> Result<Option<Value>, Memory>
-    ensures { IfOk result (λ value. option_map view value ≡ json_of bytes.now) }
+fn listing_json_in<'a>(
+    alloc: Global,
+    bytes: &'a [u8],
+    scratch: &'a mut Scratch<Global>,
+) -> Result<Option<Value<'a>>, Memory>
+    ensures { IfOk result (λ value. option_map value_view value ≡ listing_json bytes.now) }
 {
-    match Value::from_slice(alloc, bytes) {
+    match Value::from_slice(alloc, bytes, scratch) {
         Ok(value) => Ok(Some(value)),
-        Err(fault) => match fault.classify() {
-            Category::Memory => Err(Memory),
-            _ => Ok(None),
-        },
+        Err(Error::Invalid) => Ok(None),
+        Err(_) => Err(Memory),
+    }
+}
+
+/// The entries of a list.
+fn listing_json_entries<'v, 'a>(value: &'v Value<'a>) -> Option<&'v [Value<'a>]>
+    ensures { option_map (λ entries. items_view entries.now) result ≡ as_array (value_view value.now) }
+{
+    if let Value::Array(entries) = value {
+        Some(entries.as_slice())
+    } else {
+        None
     }
 }
 
 #[tactic(auto, using(crate::proofs::ListLemmas::each_more, crate::proofs::ListLemmas::each_none, crate::proofs::ListLemmas::each_all))]
 fn container_names_in_json_entries(
     alloc: Global,
-    entries: &[Value],
+    entries: &[Value<'_>],
 ) -> Result<Option<List<Bytes>>, Memory>
     ensures { IfOk result (λ names. names ≡ each container_name (items_view entries.now)) }
 {
@@ -72,7 +90,7 @@ fn container_names_in_json_entries(
 #[tactic(auto, using(crate::proofs::ListLemmas::each_more, crate::proofs::ListLemmas::each_none, crate::proofs::ListLemmas::each_all))]
 fn name_items_in_json_entries(
     alloc: Global,
-    entries: &[Value],
+    entries: &[Value<'_>],
 ) -> Result<Option<List<NameItem>>, Memory>
     ensures { IfOk result (λ items. items ≡ each name_item (items_view entries.now)) }
 {
@@ -87,8 +105,8 @@ fn name_items_in_json_entries(
 }
 
 /// The object that an entry of a listing has.
-fn name_item_in_json_entry(alloc: Global, entry: &Value) -> Result<Option<NameItem>, Memory>
-    ensures { IfOk result (λ item. item ≡ name_item (view entry.now)) }
+fn name_item_in_json_entry(alloc: Global, entry: &Value<'_>) -> Result<Option<NameItem>, Memory>
+    ensures { IfOk result (λ item. item ≡ name_item (value_view entry.now)) }
 {
     let Some(name) = json_listing_entry_text(entry, "name") else {
         return Ok(None);
@@ -110,14 +128,14 @@ fn name_item_in_json_entry(alloc: Global, entry: &Value) -> Result<Option<NameIt
     }))
 }
 
-fn json_listing_entry_text<'v>(value: &'v Value, field: &str) -> Option<&'v str>
-    ensures { option_map (λ text. text.now) result ≡ text_at field.now (view value.now) }
+fn json_listing_entry_text<'v>(value: &'v Value<'_>, field: &str) -> Option<&'v str>
+    ensures { option_map (λ text. text.now) result ≡ text_in field.now (value_view value.now) }
 {
     value.get(field)?.as_str()
 }
 
-fn json_listing_entry_number(value: &Value, field: &str) -> Option<u64>
-    ensures { result ≡ number_at field.now (view value.now) }
+fn json_listing_entry_number(value: &Value<'_>, field: &str) -> Option<u64>
+    ensures { result ≡ number_in field.now (value_view value.now) }
 {
-    value.get(field)?.as_u64()
+    number_of(value.get(field)?.as_number()?.as_bytes(), MOST_DIGITS)
 }

@@ -94,8 +94,8 @@ module _ (n content_type : List ℕ) (meta : List (List ℕ)) where
   object content = record { content_type = content_type; meta = meta; content = content }
 
   -- a number that JSON has
-  item_size : (content : Content) → IsMadeObject n (object content) → nat_lt (size_of content) (2 ^ 64) ≡ true
-  item_size content own = lt-ltb (size_of content) (2 ^ 64) (omega (arith, made_size content own.content))
+  item_size : (content : Content) → IsMadeObject n (object content) → nat_lt (size_of content) (10 ^ 19) ≡ true
+  item_size content own = lt-ltb (size_of content) (10 ^ 19) (omega (arith, made_size content own.content))
 
   item_is : (content : Content) → IsMadeObject n (object content) → is_spelled_name_item (item_of n (object content)) ≡ true
   item_is content own =

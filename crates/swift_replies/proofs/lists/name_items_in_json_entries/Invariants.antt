@@ -1,5 +1,5 @@
 use Rattle.std.proofs.Common.{◌≡◌, Some, take}
-use Rattle.serde_json.specs.View.{items_view}
+use Rattle.json.specs.Value.{items_view}
 use Rattle.swift_replies.specs.Answers.{each, name_item}
 use Rattle.swift_replies.proofs.lists.name_items_in_json_entries.Given as goal
 
