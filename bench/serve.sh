@@ -73,7 +73,7 @@ class Target:
         """The milliseconds of processor that the server took so far, by all its threads."""
         spent = 0
         for task in os.listdir(f"/proc/{self.process.pid}/task"):
-            with contextlib.suppress(FileNotFoundError), open(f"/proc/{self.process.pid}/task/{task}/schedstat", encoding="ascii") as it:
+            with contextlib.suppress(FileNotFoundError, ProcessLookupError), open(f"/proc/{self.process.pid}/task/{task}/schedstat", encoding="ascii") as it:
                 spent += int(it.read().split()[0])
         return spent / 1e6
 
