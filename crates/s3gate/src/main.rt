@@ -18,25 +18,24 @@ mod version;
 use crate::faults::{explain_refusal, explain_setup_fault};
 use crate::input::InputLine;
 use crate::probe::probe_store;
-use crate::said::{ErrorLog, Limits, say_end, say_start};
+use crate::said::{Limits, say_end, say_start};
 use environment::{
-    SetupFault, Why, clone_environment_runtime, is_variable_on, listener_at_variable_place,
-    number_in_variable, place_fault, required_variable, variable, words,
+    Clients, LONGEST, SetupFault, Why, ahead_limit, clients_at_variable_place,
+    clone_environment_runtime, error_log, idle_limit, number_in_variable, place_fault,
+    required_variable, variable, words,
 };
 use gate_base::{Bytes, Copying, Line, RandomDraws, StdLine, StdSink, SystemClock};
 use gateway_cli::{Command, USUAL_LARGEST_BODY, read_words};
 use gateway_cmd::run;
 use memory_swift::memory_store;
 use sigv4::Keys;
-use sockets::TcpLine;
 use std::fs;
 use std::io::ErrorKind;
-use std::net::SocketAddr;
 use std::process::ExitCode;
 use swift_calls::Swift;
 use swift_client::{SwiftClient, TcpLink, over_tcp};
 use swift_requests::{Place, is_place};
-use wire_log::{Log, LoggedLine, LoggedStore, Peers};
+use wire_log::LoggedStore;
 
 /// The exit status where memory ran out before the run began.
 const MEMORY: u8 = 5;
@@ -50,38 +49,18 @@ const STORE: &str = "S3GATE_STORE";
 
 const AHEAD: &str = "S3GATE_AHEAD";
 
-/// The exit status where the words or the key text are refused.
-const REFUSED: u8 = 2;
+const IDLE: &str = "S3GATE_IDLE";
 
-/// How many seconds a client may be silent, where `S3GATE_IDLE` doesn't say.
-const USUAL_IDLE: u64 = 60;
-
-/// How many MiB are read ahead of clients or kept to be sent to them in all, where `S3GATE_AHEAD` doesn't say, and at most.
-const USUAL_AHEAD: u64 = 64;
-
-const MOST_AHEAD: u64 = 65_536;
+const LOG: &str = "S3GATE_LOG";
 
 const MEBIBYTE: u64 = 1_048_576;
+
+/// The exit status where the words or the key text are refused.
+const REFUSED: u8 = 2;
 
 /// How many seconds the store may be silent, where `S3GATE_STORE_TIMEOUT` doesn't say: longer than a Swift proxy waits for
 /// its own servers.
 const USUAL_SILENCE: u64 = 300;
-
-/// The most seconds of a limit of time: a day.
-const LONGEST: u64 = 86_400;
-
-/// The clients, with a log of their replies on standard error.
-type Clients = LoggedLine<TcpLine<HostRuntime>, StdSink, HostRuntime, SocketPeers>;
-
-/// Asks a line of sockets for its client.
-#[derive(Clone, Copy)]
-struct SocketPeers;
-
-impl Peers<TcpLine<HostRuntime>> for SocketPeers {
-    fn peer(&self, line: &TcpLine<HostRuntime>) -> Option<SocketAddr> {
-        line.peer()
-    }
-}
 
 /// The Swift store, with a log of its failures on standard error.
 type Store = LoggedStore<SwiftClient<TcpLink<HostRuntime>>, StdSink, HostRuntime>;
@@ -166,7 +145,7 @@ fn begin_command(
     limit: u64,
 ) -> Result<(), SetupFault> {
     let limits = limits(rt, limit)?;
-    let mut log = log(rt)?;
+    let mut log = error_log(rt, LOG)?;
     say_start(rt, &mut log, command, keys, place, limits)?;
     probe_store(rt, &mut log, place, largest_body_of(command), limit)
 }
@@ -192,7 +171,7 @@ fn say_that_it_ended(rt: &HostRuntime, words: &[String], keys: &str) -> Result<(
 }
 
 fn say_end_of(rt: &HostRuntime, command: &Command) -> Result<(), SetupFault> {
-    let mut log = log(rt)?;
+    let mut log = error_log(rt, LOG)?;
     say_end(rt, &mut log, command);
     Ok(())
 }
@@ -200,8 +179,8 @@ fn say_end_of(rt: &HostRuntime, command: &Command) -> Result<(), SetupFault> {
 /// The numbers that the log's first line has.
 fn limits(rt: &HostRuntime, store: u64) -> Result<Limits, SetupFault> {
     Ok(Limits {
-        idle: number_in_variable(rt, "S3GATE_IDLE", USUAL_IDLE, LONGEST)?,
-        ahead: number_in_variable(rt, AHEAD, USUAL_AHEAD, MOST_AHEAD)?,
+        idle: idle_limit(rt, IDLE)?,
+        ahead: ahead_limit(rt, AHEAD)? / MEBIBYTE,
         store,
     })
 }
@@ -251,7 +230,7 @@ fn probe_accepted(
     limit: u64,
 ) -> Result<(), SetupFault> {
     if is_accepted(rt, words, keys) {
-        let mut log = log(rt)?;
+        let mut log = error_log(rt, LOG)?;
         probe_store(rt, &mut log, place, USUAL_LARGEST_BODY, limit)?;
     }
     Ok(())
@@ -336,55 +315,21 @@ fn read_key_file(rt: &HostRuntime, path: &str) -> Result<String, SetupFault> {
 }
 
 /// The clients that come to the place which the environment names. How many of them are served is said by the words.
-///
-/// The listener is the first that is opened and stays. So where standard error is closed its number is the listener's, to which no
-/// line can be written, and never that of a client or of the store.
 fn clients(rt: &HostRuntime, largest: u64) -> Result<Clients, SetupFault> {
-    let limit = number_in_variable(rt, "S3GATE_IDLE", USUAL_IDLE, LONGEST)?;
-    let ahead = ahead(rt, largest)?;
-    let log = log(rt)?;
-    let line = tcp_line(rt, limit, ahead, largest)?;
-    Ok(LoggedLine::new(line, log, SocketPeers))
-}
-
-fn tcp_line(
-    rt: &HostRuntime,
-    limit: u64,
-    ahead: usize,
-    largest: u64,
-) -> Result<TcpLine<HostRuntime>, SetupFault> {
-    let listener = listener_at_variable_place(rt, LISTEN)?;
-    match TcpLine::new(
-        clone_environment_runtime(rt)?,
-        rt.alloc(),
-        listener,
-        limit,
-        None,
-        ahead,
-        largest as usize,
-    ) {
-        Ok(line) => Ok(line),
-        Err(error) if error.kind() == ErrorKind::OutOfMemory => Err(SetupFault::Memory),
-        Err(_) => Err(SetupFault::Variable(LISTEN, Why::CannotListen)),
-    }
+    let limit = idle_limit(rt, IDLE)?;
+    let ahead = ahead_for(rt, largest)?;
+    let log = error_log(rt, LOG)?;
+    clients_at_variable_place(rt, LISTEN, log, limit, ahead as usize, largest as usize)
 }
 
 /// How many bytes are read ahead or kept to be sent, at most. Bodies of more bytes than the usual ones are read ahead whole, so that
 /// one of them has to have room.
-fn ahead(rt: &HostRuntime, largest: u64) -> Result<usize, SetupFault> {
-    let count = number_in_variable(rt, AHEAD, USUAL_AHEAD, MOST_AHEAD)?;
-    let bytes = count.saturating_mul(MEBIBYTE);
+fn ahead_for(rt: &HostRuntime, largest: u64) -> Result<u64, SetupFault> {
+    let bytes = ahead_limit(rt, AHEAD)?;
     if USUAL_LARGEST_BODY < largest && bytes < largest {
         return Err(SetupFault::Variable(AHEAD, Why::BelowBody(largest)));
     }
-    Ok(bytes as usize)
-}
-
-/// A log on standard error, unless the environment ends it.
-fn log(rt: &HostRuntime) -> Result<ErrorLog, SetupFault> {
-    let is_on = is_variable_on(rt, "S3GATE_LOG")?;
-    let sink = StdSink::error(clone_environment_runtime(rt)?);
-    Ok(Log::new(clone_environment_runtime(rt)?, rt.alloc(), sink, is_on))
+    Ok(bytes)
 }
 
 /// How many seconds the store may be silent.
@@ -395,7 +340,7 @@ fn store_limit(rt: &HostRuntime) -> Result<u64, SetupFault> {
 /// The Swift store at that place. The first call connects to it.
 fn swift_store(rt: &HostRuntime, place: Place, limit: u64) -> Result<Store, SetupFault> {
     let name = place.host.copy()?;
-    let log = log(rt)?;
+    let log = error_log(rt, LOG)?;
     let store = store_at(rt, place, limit)?;
     Ok(LoggedStore::new(store, log, name))
 }

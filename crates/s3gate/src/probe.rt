@@ -1,7 +1,6 @@
 //! What is asked of the store before it is used: whether it can bear the gateway, and has the account.
 
-use crate::said::ErrorLog;
-use environment::{SetupFault, Why, clone_environment_runtime};
+use environment::{ErrorLog, SetupFault, Why, clone_environment_runtime};
 use gate_base::{Bytes, CALL_LIMIT, Copying, Counted, Memory};
 use gateway_cli::USUAL_LARGEST_BODY;
 use http_answers::{Announced, announced_by_answer_head};

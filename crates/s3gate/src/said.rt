@@ -1,15 +1,11 @@
 //! What the log says as `serve` begins, and as it ends behind the last of its turns.
 
 use crate::version::VERSION;
-use environment::{SetupFault, variable};
-use gate_base::{Bytes, Memory, StdSink};
+use environment::{ErrorLog, SetupFault, variable};
+use gate_base::{Bytes, Memory};
 use gateway_cli::{Command, USUAL_LARGEST_BODY};
 use std::alloc::Global;
 use swift_requests::Place;
-use wire_log::Log;
-
-/// A log on standard error.
-pub type ErrorLog = Log<StdSink, HostRuntime>;
 
 /// The numbers of a run that variables say: seconds that a client and the store may be silent, and MiB that are held.
 #[derive(Clone, Copy)]

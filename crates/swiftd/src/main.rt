@@ -3,37 +3,20 @@
 #![tactic(auto)]
 
 use environment::{
-    SetupFault, Why, clone_environment_runtime, is_variable_on, listener_at_variable_place,
-    machine_memory, number_in_variable, report_variable_fault, words,
+    Clients, SetupFault, Why, ahead_limit, clients_at_variable_place, clone_environment_runtime,
+    error_log, idle_limit, machine_memory, report_variable_fault, words,
 };
 use gate_base::{Line, List, MemLine, NoCount, StdSink};
 use kept_store::{FileFault, FileShelf, close_file_shelf, open_file_shelf};
-use sockets::TcpLine;
-use std::io::ErrorKind;
-use std::net::SocketAddr;
 use std::process::ExitCode;
 use store_cmd::{run_store, shelf_file};
 use swift_store::{MapShelf, Shelf};
-use wire_log::{Log, LoggedLine, Peers};
 
 /// The exit status where memory ran out before the run began.
 const MEMORY: u8 = 5;
 
 /// The exit status where there is no place to listen at, or a variable won't do.
 const SETUP: u8 = 9;
-
-/// How many seconds a client may be silent, where `SWIFTD_IDLE` doesn't say.
-const USUAL_IDLE: u64 = 60;
-
-/// The most that `SWIFTD_IDLE` may say: a day.
-const LONGEST_IDLE: u64 = 86_400;
-
-/// How many MiB are read ahead of clients or kept to be sent to them in all, where `SWIFTD_AHEAD` doesn't say, and at most.
-const USUAL_AHEAD: u64 = 64;
-
-const MOST_AHEAD: u64 = 65_536;
-
-const MEBIBYTE: u64 = 1_048_576;
 
 /// The most bytes of a body that is read ahead: the most that a store takes.
 const LARGEST_BODY: usize = 1_073_741_824;
@@ -42,19 +25,6 @@ const LISTEN: &str = "SWIFTD_LISTEN";
 
 /// The option that names the file, as it stands in the line that says why the program can't begin.
 const FILE: &str = "--file";
-
-/// The clients, with a log of their replies on standard error.
-type Clients = LoggedLine<TcpLine<HostRuntime>, StdSink, HostRuntime, SocketPeers>;
-
-/// Asks a line of sockets for its client.
-#[derive(Clone, Copy)]
-struct SocketPeers;
-
-impl Peers<TcpLine<HostRuntime>> for SocketPeers {
-    fn peer(&self, line: &TcpLine<HostRuntime>) -> Option<SocketAddr> {
-        line.peer()
-    }
-}
 
 fn main(rt: HostRuntime) -> ExitCode {
     match start(&rt) {
@@ -136,47 +106,9 @@ fn file_setup_fault(fault: FileFault) -> SetupFault {
 }
 
 /// The clients that come to the place which the environment names. How many of them are served is said by the words.
-///
-/// The listener is the first that is opened and stays. So where standard error is closed its number is the listener's, to which no
-/// line can be written, and never that of a client or of the store.
 fn clients(rt: &HostRuntime) -> Result<Clients, SetupFault> {
-    let limit = number_in_variable(rt, "SWIFTD_IDLE", USUAL_IDLE, LONGEST_IDLE)?;
-    let ahead = ahead(rt)?;
-    let log = log(rt)?;
-    let line = tcp_line(rt, limit, ahead)?;
-    Ok(LoggedLine::new(line, log, SocketPeers))
-}
-
-fn tcp_line(
-    rt: &HostRuntime,
-    limit: u64,
-    ahead: usize,
-) -> Result<TcpLine<HostRuntime>, SetupFault> {
-    let listener = listener_at_variable_place(rt, LISTEN)?;
-    match TcpLine::new(
-        clone_environment_runtime(rt)?,
-        rt.alloc(),
-        listener,
-        limit,
-        None,
-        ahead,
-        LARGEST_BODY,
-    ) {
-        Ok(line) => Ok(line),
-        Err(error) if error.kind() == ErrorKind::OutOfMemory => Err(SetupFault::Memory),
-        Err(_) => Err(SetupFault::Variable(LISTEN, Why::CannotListen)),
-    }
-}
-
-/// How many bytes are read ahead or kept to be sent, at most.
-fn ahead(rt: &HostRuntime) -> Result<usize, SetupFault> {
-    let count = number_in_variable(rt, "SWIFTD_AHEAD", USUAL_AHEAD, MOST_AHEAD)?;
-    Ok(count.saturating_mul(MEBIBYTE) as usize)
-}
-
-/// A log on standard error, unless the environment ends it.
-fn log(rt: &HostRuntime) -> Result<Log<StdSink, HostRuntime>, SetupFault> {
-    let is_on = is_variable_on(rt, "SWIFTD_LOG")?;
-    let sink = StdSink::error(clone_environment_runtime(rt)?);
-    Ok(Log::new(clone_environment_runtime(rt)?, rt.alloc(), sink, is_on))
+    let limit = idle_limit(rt, "SWIFTD_IDLE")?;
+    let ahead = ahead_limit(rt, "SWIFTD_AHEAD")?;
+    let log = error_log(rt, "SWIFTD_LOG")?;
+    clients_at_variable_place(rt, LISTEN, log, limit, ahead as usize, LARGEST_BODY)
 }
