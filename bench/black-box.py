@@ -3287,8 +3287,11 @@ def a_file_of_sqlite_is_served(check):
             for row in ((b"b", 0, 7), (b"readers", 2, 7), (b"moment", 0, 253402300800), (b"none", 1, None)):
                 database.execute("INSERT INTO containers VALUES (?, ?, ?)", row)
             good = (0, b"t", b"3.a:1", 3, ABC.encode(), b"abc")
-            # Each with the columns that are no object's: kind, metadata, size, a list whose text is none.
-            odd = {"kind": (2, *good[1:]), "sign": (-1, *good[1:]), "meta": (0, b"t", b"4.a:1", *good[3:]), "size": (*good[:3], 4, *good[4:]), "list": (1, *good[1:])}
+            # A list of one segment has the hash of the segment's ETag.
+            segments = json.dumps([{"etag": ABC, "path": "/b/k", "size_bytes": 3}], separators=(",", ":")).encode()
+            listed = (b"t", b"", 3, hashlib.md5(ABC.encode()).hexdigest().encode(), segments)
+            # Each with the columns that are no object's: kind (of bytes, and of a list), metadata, size, a list whose text is none.
+            odd = {"kind": (2, *good[1:]), "listed-kind": (2, *listed), "sign": (-1, *good[1:]), "meta": (0, b"t", b"4.a:1", *good[3:]), "size": (*good[:3], 4, *good[4:]), "list": (1, *good[1:])}
             for name, row in {"k": good, **odd}.items():
                 database.execute("INSERT INTO objects VALUES (?, ?, ?, ?, ?, ?, ?, ?)", (b"b", name.encode(), *row))
             database.commit()

@@ -98,6 +98,21 @@ FAULTS = [
     ("many_keys put_copied_sub_manifest: each as the first", "many_keys/src/sub_manifests.rt", 1, "    let request = sub_manifest_request(alloc, sealed, segments, n)?;", "    let request = sub_manifest_request(alloc, sealed, segments, 0)?;", ["many-parts.txt"]),
     ("list_pages next_marker: it stays at the first", "list_pages/src/roll.rt", 1, "        self.last.as_slice()", "        self.marker.as_slice()", ["listings.txt"]),
     ("list_pages finish: truncated where nothing is wanted", "list_pages/src/roll.rt", 1, "        let truncated = 0 < self.max && self.more;", "        let truncated = self.more;", ["listings.txt"]),
+    ("object_rows content_of: any other kind is a list", "object_rows/src/row.rt", 1, "    } else if kind == LIST {\n", "    } else if kind >= LIST {\n", OUTSIDE),
+    ("object_rows from_row: a hash of its length is taken", "object_rows/src/row.rt", 1, "    if etag.as_slice() == row.hash.as_slice() {\n", "    if etag.len() == row.hash.len() {\n", OUTSIDE),
+    ("planner find_object: a missing bucket is asked for again", "planner/src/reading.rt", 1, "        return Ok(Reading::Whole(Reply::Refused(Code::NoSuchBucket)));\n", "        head_bucket(state, &bucket)?;\n        return Ok(Reading::Whole(Reply::Refused(Code::NoSuchBucket)));\n", ["objects.txt"]),
+    ("planner read_piece: one byte more is asked for", "planner/src/reading.rt", 1, "        Some((first, first + (size - 1))),\n", "        Some((first, first + size)),\n", ["ranges.txt"]),
+    ("many_keys delete_key: a call that failed is passed over", "many_keys/src/deletions.rt", 1, "    delete_object(state, container, name)\n", "    delete_object(state, container, name).or(Ok(()))\n", ["many_keys.txt"]),
+    ("many_keys put_copy_of_parts: the object without its sub-manifests", "many_keys/src/listed.rt", 1, "    put_copied_sub_manifests(alloc, state, sealed)?;\n", "    if false {\n        put_copied_sub_manifests(alloc, state, sealed)?;\n    }\n", ["many-parts.txt"]),
+    ("gateway_cmd settle_for_command: nothing is settled", "gateway_cmd/src/recover.rt", 1, "    Unsure::open(alloc, store, &settings).settle()\n", "    let _unsure = Unsure::open(alloc, store, &settings);\n    Ok(())\n", ["recover.txt"]),
+    ("gateway_cmd unsettled_outcome: settled where the store failed", "gateway_cmd/src/recover.rt", 1, "        SettleFault::Failed => RunOutcome::Plain(Status::Store),\n", "        SettleFault::Failed => RunOutcome::Told(Told::Settled),\n", ["recover.txt"]),
+    ("gateway_cmd serve_another: done where the line failed", "gateway_cmd/src/session.rt", 1, "        Err(_) => Some(Stopped::Line),\n", "        Err(_) => Some(Stopped::Done),\n", ["serve.txt"]),
+    ("gateway_cmd serve_another: nothing is served", "gateway_cmd/src/session.rt", 1, "            let _ended = serve_connection(alloc, store, known, service, line, clock, draws);\n", "            line.close();\n"),
+    ("http_service one_less: no connection is counted", "http_service/src/run.rt", 1, "        Some(left) => Some(left.saturating_sub(1)),\n", "        Some(left) => Some(left.saturating_sub(0)),\n", ["store_cmd.txt", "serve.txt"]),
+    ("http_service serve_another: nothing is served", "http_service/src/run.rt", 1, "            let _ended = serve_connection(alloc, service, line);\n", "            line.close();\n", ["store_cmd.txt"]),
+    ("store_cmd report_store_run: a report where all was served", "store_cmd/src/command.rt", 1, "        return 0;\n", "        let _ = report.put(b\"swiftd: done\\n\");\n        return 0;\n", ["store_cmd.txt"]),
+    ("store_cmd answer_message: nothing is answered", "store_cmd/src/service.rt", 1, "        Ok(()) => send_piece(line, &NoCount, text.as_slice(), ended_after_answer(last)),\n", "        Ok(()) => ended_after_answer(last),\n", ["store_cmd.txt"]),
+    ("store_cmd is_file_path: an empty path is taken", "store_cmd/src/words.rt", 1, "    1 <= path.len() && path.len() <= LONGEST_PATH\n", "    path.len() <= LONGEST_PATH\n", ["store_cmd.txt"]),
 ]
 
 # The files of cases that are run, which are those that take least time without a proof.

@@ -3,8 +3,6 @@
 
 mod pieces;
 mod row;
-#[cfg(test)]
-mod tests;
 
 pub use pieces::pieces_of;
 pub use row::{Row, RowFault, from_row, object_of_columns, row_with_etag, to_row};

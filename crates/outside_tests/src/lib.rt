@@ -1,4 +1,5 @@
-//! Tests that must be code: the line and the link over sockets, the lines of a log, and a system whose clock and chance fail.
+//! Tests that must be code: the line and the link over sockets, the lines of a log, a system whose clock and chance fail, and rows
+//! of a database by hand.
 #![tactic(auto)]
 
 #[cfg(test)]
@@ -11,6 +12,8 @@ mod logged_store;
 mod loopback;
 #[cfg(test)]
 mod pieces;
+#[cfg(test)]
+mod rows;
 #[cfg(test)]
 mod tcp_line;
 #[cfg(test)]

@@ -17,7 +17,8 @@ use Rattle.sigv4.specs.Canonical.{clean_header_value, canonical_query, canonical
 use Rattle.sigv4.specs.Keys.{secret_of}
 use Rattle.sigv4.specs.Moment.{signing_time_seconds}
 use Rattle.sigv4.specs.Sign.{date_of, signed_of}
-use Rattle.sigv4.specs.Verdict.{is_among, must_be_signed}
+use Rattle.sign_rules.specs.Rules.{must_be_signed}
+use Rattle.sigv4.specs.Verdict.{is_among}
 use Rattle.sigv4.specs.declared.keys.AccessKey.{AccessKey}
 use Rattle.presign.specs.declared.claim.Claim.{Claim}
 use Rattle.presign.specs.Claim.{claim_of}

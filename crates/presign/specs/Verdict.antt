@@ -10,11 +10,12 @@ use Rattle.s3_names.specs.Query.{without}
 use Rattle.s3_names.specs.declared.target.Target.{Target}
 use Rattle.http_wire.specs.Headers.{has_header}
 use Rattle.http_wire.specs.declared.message.Message.{Message}
+use Rattle.sign_rules.specs.Rules.{must_be_signed}
 use Rattle.sigv4.specs.Canonical.{canonical_of}
 use Rattle.sigv4.specs.Keys.{secret_of}
 use Rattle.sigv4.specs.Moment.{signing_time_seconds}
 use Rattle.sigv4.specs.Sign.{signed_of}
-use Rattle.sigv4.specs.Verdict.{has_wrong_scope, is_among, must_be_signed, has_signed_pieces, signature_differs}
+use Rattle.sigv4.specs.Verdict.{has_wrong_scope, is_among, has_signed_pieces, signature_differs}
 use Rattle.sigv4.specs.declared.keys.AccessKey.{AccessKey}
 use Rattle.sigv4.specs.declared.signature.Signed.{Signed}
 use Rattle.presign.specs.declared.claim.Claim.{Claim}

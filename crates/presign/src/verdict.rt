@@ -11,9 +11,10 @@ use crate::parameters::SIGNATURE;
 use gate_base::{Bytes, Caller, Memory, Pair};
 use http_wire::{Message, has_header};
 use s3_names::Target;
+use sign_rules::must_be_signed;
 use sigv4::{
-    Keys, Signed, canonical_with, has_signed_pieces, has_wrong_scope, is_among, must_be_signed,
-    sign, signature_differs, signing_time_seconds,
+    Keys, Signed, canonical_with, has_signed_pieces, has_wrong_scope, is_among, sign,
+    signature_differs, signing_time_seconds,
 };
 use std::alloc::Global;
 

@@ -9,6 +9,7 @@ use Rattle.gate_base.specs.declared.caller.Caller.{Caller}
 use Rattle.gate_base.specs.declared.caller.Caller.TheVariants.{Owner, Anonymous}
 use Rattle.gate_base.specs.declared.page.Pair.{Pair}
 use Rattle.s3_names.specs.declared.target.Target.{Target}
+use Rattle.sign_rules.specs.Rules.{is_of_scope, must_be_signed}
 use Rattle.http_wire.specs.Headers.{has_name, has_header, has_single_header, first_value}
 use Rattle.http_wire.specs.declared.message.Message.{Message}
 use Rattle.sigv4.specs.Authorization.{is_hex, authorization_of}
@@ -30,15 +31,11 @@ claim_of headers =
 
 -- another region or another service
 abbrev pub has_wrong_scope : List ℕ → Authorization → Bool
-has_wrong_scope region claim = not (bytes_eq claim.region region && bytes_eq claim.service (codes "s3"))
+has_wrong_scope region claim = not (is_of_scope region claim.region claim.service)
 
 -- the name is one of those
 abbrev pub is_among : List ℕ → List (List ℕ) → Bool
 is_among name names = list_any (λ other. bytes_eq other name) names
-
--- `host` and `x-amz-*` have to be signed
-abbrev pub must_be_signed : List ℕ → Bool
-must_be_signed name = bytes_eq name (codes "host") || starts_with nat_eq name (codes "x-amz-")
 
 -- a header that had to be signed and isn't
 abbrev pub is_left_out : Authorization → Pair → Bool

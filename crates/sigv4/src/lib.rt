@@ -24,6 +24,5 @@ pub use refusal::Refusal;
 pub use request::{canonical, canonical_query, canonical_with};
 pub use signature::{Signed, date_of, is_date_time, sign};
 pub use verdict::{
-    has_signed_pieces, has_wrong_scope, hash_of, is_among, must_be_signed, signature_differs,
-    time_of, verify,
+    has_signed_pieces, has_wrong_scope, hash_of, is_among, signature_differs, time_of, verify,
 };

@@ -1,7 +1,7 @@
 ghost use Rattle.std.specs.Prelude.{◌≡◌, false, IfOk};
 ghost use Rattle.std.specs.List.{list_any};
 ghost use Rattle.sigv4.specs.Keys.{secret_of};
-ghost use Rattle.sigv4.specs.Verdict.{claim_of, has_wrong_scope, is_among, must_be_signed, is_left_out, leaves_unsigned, time_of, lacks_date, hash_of, announces_signed_pieces, has_signed_pieces, is_unsigned_payload, lacks_payload_hash, expected, signature_differs, payload_differs, first_refusal, reasons, judged_with, caller_or_refusal, Gives};
+ghost use Rattle.sigv4.specs.Verdict.{claim_of, has_wrong_scope, is_among, is_left_out, leaves_unsigned, time_of, lacks_date, hash_of, announces_signed_pieces, has_signed_pieces, is_unsigned_payload, lacks_payload_hash, expected, signature_differs, payload_differs, first_refusal, reasons, judged_with, caller_or_refusal, Gives};
 
 use crate::authorization::{Authorization, is_hex};
 use crate::moment::{is_of_day, is_skewed, is_time};
@@ -12,6 +12,7 @@ use gate_base::{Bytes, Caller, Memory, Pair};
 use http_wire::{Message, first_value, has_header, has_name, has_single_header};
 use s3_names::Target;
 use sha2::{Digest, Sha256};
+use sign_rules::{is_of_scope, must_be_signed};
 use std::alloc::Global;
 
 pub(crate) const AUTHORIZATION: &[u8] = b"authorization";
@@ -122,7 +123,7 @@ pub(crate) fn claim_of(alloc: Global, headers: &[Pair]) -> Result<Option<Authori
 pub fn has_wrong_scope(region: &[u8], claim: &Authorization) -> bool
     ensures { result ≡ has_wrong_scope region.now claim.now }
 {
-    !(claim.region.as_slice() == region && claim.service.as_slice() == b"s3".as_slice())
+    !is_of_scope(region, claim.region.as_slice(), claim.service.as_slice())
 }
 
 pub(crate) fn leaves_unsigned(claim: &Authorization, headers: &[Pair]) -> bool
@@ -142,13 +143,6 @@ fn is_left_out(claim: &Authorization, header: &Pair) -> bool
 {
     must_be_signed(header.name.as_slice())
         && !is_among(header.name.as_slice(), claim.names.as_slice())
-}
-
-/// Whether a header of this name, in lower case, has to be signed where it is there: `host` and each `x-amz-*`.
-pub fn must_be_signed(name: &[u8]) -> bool
-    ensures { result ≡ must_be_signed name.now }
-{
-    name == b"host".as_slice() || name.starts_with(b"x-amz-")
 }
 
 /// Whether the name is one of those.

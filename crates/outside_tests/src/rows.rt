@@ -1,7 +1,7 @@
 //! Rows as SQLite's tables have them, by hand; the hashes are those of Python's `hashlib`.
 
-use crate::{Row, RowFault, from_row, to_row};
 use gate_base::{Bytes, Memory};
+use object_rows::{Row, RowFault, from_row, to_row};
 use std::alloc::Global;
 use swift_calls::Content;
 
