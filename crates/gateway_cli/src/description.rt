@@ -1,7 +1,8 @@
-ghost use Rattle.std.specs.Prelude.{◌≡◌, false, IfOk};
-ghost use Rattle.clap.specs.Words.{app_of, with_subcommand};
+ghost use Rattle.std.specs.Prelude.{◌≡◌, false, IfOk, codes};
+ghost use Rattle.clap.specs.Words.{app_of, rule_of};
+ghost use Rattle.clap.specs.Simple.{new_app, on_top, with_rule, with_subcommand};
 ghost use Rattle.clap.specs.declared.builder.command.Command.TheViews.{out-Command as fields_of};
-ghost use Rattle.gateway_cli.specs.Description.{check_app, gate_app, parted_app, presign_app, recover_app, sweep_app, serve_app, serving_app, session_app, sign_app, signer_app, trial_app};
+ghost use Rattle.gateway_cli.specs.Description.{HasBelow, flag_rule, gate_app, option_rule, parted_app, presign_app, serve_app, serving_app, sign_app, signing_app, sweep_app, trial_app, with_keeping, with_serving, with_settings, with_signing};
 
 use clap::{Arg, ArgAction, Command};
 use std::alloc::{AllocError, Global};
@@ -10,181 +11,168 @@ use std::alloc::{AllocError, Global};
 pub(crate) fn gate<'a>(alloc: Global) -> Result<Command<'a>, AllocError>
     ensures { IfOk result (λ command. app_of command ≡ gate_app) }
 {
-    let bare = Command::new(alloc, "s3gate")
+    let serving = with_serving_commands(alloc, bare_gate(alloc))?;
+    let signing = with_signing_commands(alloc, serving)?;
+    let keeping = with_keeping_commands(alloc, signing)?;
+    with_command(keeping, trial_description(alloc))
+}
+
+/// The program, whose words begin behind its name, and name one of its commands.
+fn bare_gate<'a>(alloc: Global) -> Command<'a>
+    ensures { app_of result ≡ on_top with_settings (new_app (codes "s3gate")) }
+{
+    Command::new(alloc, "s3gate")
         .no_binary_name(true)
-        .subcommand_required(true);
-    let one = with_session_description(alloc, bare)?;
-    let two = with_serve_description(alloc, one)?;
-    let three = with_sign_description(alloc, two)?;
-    let four = with_presign_description(alloc, three)?;
-    let five = with_recover_description(alloc, four)?;
-    let six = with_sweep_description(alloc, five)?;
-    let seven = with_check_description(alloc, six)?;
-    with_trial_description(alloc, seven)
+        .subcommand_required(true)
 }
 
-fn with_session_description<'a>(alloc: Global, gate: Command<'a>) -> Result<Command<'a>, AllocError>
-    ensures { IfOk result
-        (λ command. app_of command ≡ with_subcommand (app_of gate.entry) session_app.top) }
+/// With those that serve connections.
+fn with_serving_commands<'a>(alloc: Global, gate: Command<'a>) -> Result<Command<'a>, AllocError>
+    ensures { IfOk result (λ more. app_of more ≡ with_serving (app_of gate.entry)) }
 {
-    let session = serving_description(alloc, "session")?;
-    gate.subcommand(session)
+    let session = with_command(gate, serving_description(alloc, "session"))?;
+    with_command(session, serve_description(alloc))
 }
 
-fn with_serve_description<'a>(alloc: Global, gate: Command<'a>) -> Result<Command<'a>, AllocError>
-    ensures { IfOk result
-        (λ command. app_of command ≡ with_subcommand (app_of gate.entry) serve_app.top) }
+/// With those that sign.
+fn with_signing_commands<'a>(alloc: Global, gate: Command<'a>) -> Result<Command<'a>, AllocError>
+    ensures { IfOk result (λ more. app_of more ≡ with_signing (app_of gate.entry)) }
 {
-    let serve = serve_description(alloc)?;
-    gate.subcommand(serve)
+    let sign = with_command(gate, sign_description(alloc))?;
+    with_command(sign, presign_description(alloc))
 }
 
-fn with_sign_description<'a>(alloc: Global, gate: Command<'a>) -> Result<Command<'a>, AllocError>
-    ensures { IfOk result
-        (λ command. app_of command ≡ with_subcommand (app_of gate.entry) sign_app.top) }
+/// With those that look after an account.
+fn with_keeping_commands<'a>(alloc: Global, gate: Command<'a>) -> Result<Command<'a>, AllocError>
+    ensures { IfOk result (λ more. app_of more ≡ with_keeping (app_of gate.entry)) }
 {
-    let sign = sign_description(alloc)?;
-    gate.subcommand(sign)
+    let recover = with_command(gate, Ok(Command::new(alloc, "recover")))?;
+    let sweep = with_command(recover, sweep_description(alloc))?;
+    with_command(sweep, Ok(Command::new(alloc, "check")))
 }
 
-fn with_presign_description<'a>(alloc: Global, gate: Command<'a>) -> Result<Command<'a>, AllocError>
-    ensures { IfOk result
-        (λ command. app_of command ≡ with_subcommand (app_of gate.entry) presign_app.top) }
+/// A command with a further one below it, if that could be made.
+fn with_command<'a>(
+    command: Command<'a>,
+    below: Result<Command<'a>, AllocError>,
+) -> Result<Command<'a>, AllocError>
+    ensures { IfOk result (HasBelow command.entry below.entry) }
 {
-    let presign = presign_description(alloc)?;
-    gate.subcommand(presign)
-}
-
-fn with_recover_description<'a>(alloc: Global, gate: Command<'a>) -> Result<Command<'a>, AllocError>
-    ensures { IfOk result
-        (λ command. app_of command ≡ with_subcommand (app_of gate.entry) recover_app.top) }
-{
-    gate.subcommand(Command::new(alloc, "recover"))
-}
-
-fn with_sweep_description<'a>(alloc: Global, gate: Command<'a>) -> Result<Command<'a>, AllocError>
-    ensures { IfOk result
-        (λ command. app_of command ≡ with_subcommand (app_of gate.entry) sweep_app.top) }
-{
-    let sweep = sweep_description(alloc)?;
-    gate.subcommand(sweep)
-}
-
-fn sweep_description<'a>(alloc: Global) -> Result<Command<'a>, AllocError>
-    ensures app { IfOk result (λ command. app_of command ≡ sweep_app) }
-    ensures local { IfOk result (λ command. (fields_of command).has_globals ≡ false) }
-{
-    let before = Arg::new(alloc, "forget-before")
-        .long("forget-before")
-        .action(ArgAction::Set);
-    Command::new(alloc, "sweep").arg(before)
-}
-
-fn with_check_description<'a>(alloc: Global, gate: Command<'a>) -> Result<Command<'a>, AllocError>
-    ensures { IfOk result
-        (λ command. app_of command ≡ with_subcommand (app_of gate.entry) check_app.top) }
-{
-    gate.subcommand(Command::new(alloc, "check"))
-}
-
-fn with_trial_description<'a>(alloc: Global, gate: Command<'a>) -> Result<Command<'a>, AllocError>
-    ensures { IfOk result
-        (λ command. app_of command ≡ with_subcommand (app_of gate.entry) trial_app.top) }
-{
-    let trial = trial_description(alloc)?;
-    gate.subcommand(trial)
+    let made = below?;
+    command.subcommand(made)
 }
 
 /// A command of that name that serves, with the options of what its service is set to.
 fn serving_description<'a>(alloc: Global, name: &'a str) -> Result<Command<'a>, AllocError>
-    ensures app { IfOk result (λ command. app_of command ≡ serving_app name.now) }
+    ensures app { IfOk result (λ command. app_of command ≡ serving_app name.entry.now) }
     ensures local { IfOk result (λ command. (fields_of command).has_globals ≡ false) }
 {
     let parted = parted_description(alloc, name)?;
-    let largest_body = Arg::new(alloc, "largest-body")
-        .long("largest-body")
-        .action(ArgAction::Set);
-    let extended = Arg::new(alloc, "extended")
-        .long("extended")
-        .action(ArgAction::SetTrue);
-    parted.arg(largest_body)?.arg(extended)
+    let sized = with_option(alloc, parted, "largest-body", false)?;
+    with_flag(alloc, sized, "extended")
 }
 
 /// One of that name with a region and a least part alone.
 fn parted_description<'a>(alloc: Global, name: &'a str) -> Result<Command<'a>, AllocError>
-    ensures app { IfOk result (λ command. app_of command ≡ parted_app name.now) }
+    ensures app { IfOk result (λ command. app_of command ≡ parted_app name.entry.now) }
     ensures local { IfOk result (λ command. (fields_of command).has_globals ≡ false) }
 {
-    let region = Arg::new(alloc, "region")
-        .long("region")
-        .action(ArgAction::Set);
-    let least_part = Arg::new(alloc, "least-part")
-        .long("least-part")
-        .action(ArgAction::Set);
-    Command::new(alloc, name).arg(region)?.arg(least_part)
+    let placed = with_option(alloc, Command::new(alloc, name), "region", false)?;
+    with_option(alloc, placed, "least-part", false)
 }
 
 fn serve_description<'a>(alloc: Global) -> Result<Command<'a>, AllocError>
     ensures app { IfOk result (λ command. app_of command ≡ serve_app) }
     ensures local { IfOk result (λ command. (fields_of command).has_globals ≡ false) }
 {
-    let connections = Arg::new(alloc, "connections")
-        .long("connections")
-        .action(ArgAction::Set);
-    serving_description(alloc, "serve")?.arg(connections)
+    let serving = serving_description(alloc, "serve")?;
+    with_option(alloc, serving, "connections", false)
 }
 
 fn sign_description<'a>(alloc: Global) -> Result<Command<'a>, AllocError>
     ensures app { IfOk result (λ command. app_of command ≡ sign_app) }
     ensures local { IfOk result (λ command. (fields_of command).has_globals ≡ false) }
 {
-    let key = Arg::new(alloc, "key")
-        .long("key")
-        .action(ArgAction::Set)
-        .required(true);
-    let region = Arg::new(alloc, "region")
-        .long("region")
-        .action(ArgAction::Set);
-    Command::new(alloc, "sign").arg(key)?.arg(region)
+    signing_description(alloc, "sign")
+}
+
+/// A command of that name that signs by a key, for a region.
+fn signing_description<'a>(alloc: Global, name: &'a str) -> Result<Command<'a>, AllocError>
+    ensures app { IfOk result (λ command. app_of command ≡ signing_app name.entry.now) }
+    ensures local { IfOk result (λ command. (fields_of command).has_globals ≡ false) }
+{
+    let keyed = with_option(alloc, Command::new(alloc, name), "key", true)?;
+    with_option(alloc, keyed, "region", false)
 }
 
 fn presign_description<'a>(alloc: Global) -> Result<Command<'a>, AllocError>
     ensures app { IfOk result (λ command. app_of command ≡ presign_app) }
     ensures local { IfOk result (λ command. (fields_of command).has_globals ≡ false) }
 {
-    let expires = Arg::new(alloc, "expires")
-        .long("expires")
-        .action(ArgAction::Set)
-        .required(true);
-    let signer = signer_description(alloc)?;
-    signer.arg(expires)
+    let signer = signing_description(alloc, "presign")?;
+    with_option(alloc, signer, "expires", true)
+}
+
+fn sweep_description<'a>(alloc: Global) -> Result<Command<'a>, AllocError>
+    ensures app { IfOk result (λ command. app_of command ≡ sweep_app) }
+    ensures local { IfOk result (λ command. (fields_of command).has_globals ≡ false) }
+{
+    with_option(alloc, Command::new(alloc, "sweep"), "forget-before", false)
 }
 
 fn trial_description<'a>(alloc: Global) -> Result<Command<'a>, AllocError>
     ensures app { IfOk result (λ command. app_of command ≡ trial_app) }
     ensures local { IfOk result (λ command. (fields_of command).has_globals ≡ false) }
 {
-    let number = Arg::new(alloc, "number")
-        .long("number")
-        .action(ArgAction::Set)
-        .required(true);
-    let requests = Arg::new(alloc, "requests")
-        .long("requests")
-        .action(ArgAction::Set)
-        .required(true);
-    Command::new(alloc, "trial").arg(number)?.arg(requests)
+    let numbered = with_option(alloc, Command::new(alloc, "trial"), "number", true)?;
+    with_option(alloc, numbered, "requests", true)
 }
 
-fn signer_description<'a>(alloc: Global) -> Result<Command<'a>, AllocError>
-    ensures app { IfOk result (λ command. app_of command ≡ signer_app) }
-    ensures local { IfOk result (λ command. (fields_of command).has_globals ≡ false) }
+/// A command with one more option, which has to be given or not.
+fn with_option<'a>(
+    alloc: Global,
+    command: Command<'a>,
+    name: &'a str,
+    required: bool,
+) -> Result<Command<'a>, AllocError>
+    ensures app { IfOk result
+        (λ more. app_of more ≡ with_rule (app_of command.entry) (option_rule name.entry.now required)) }
+    ensures local { IfOk result
+        (λ more. (fields_of more).has_globals ≡ (fields_of command.entry).has_globals) }
 {
-    let key = Arg::new(alloc, "key")
-        .long("key")
+    let made = option(alloc, name, required);
+    command.arg(made)
+}
+
+/// A command with one more flag.
+fn with_flag<'a>(
+    alloc: Global,
+    command: Command<'a>,
+    name: &'a str,
+) -> Result<Command<'a>, AllocError>
+    ensures app { IfOk result
+        (λ more. app_of more ≡ with_rule (app_of command.entry) (flag_rule name.entry.now)) }
+    ensures local { IfOk result
+        (λ more. (fields_of more).has_globals ≡ (fields_of command.entry).has_globals) }
+{
+    let made = flag(alloc, name);
+    command.arg(made)
+}
+
+/// An option that takes a value.
+fn option<'a>(alloc: Global, name: &'a str, required: bool) -> Arg<'a>
+    ensures rule { rule_of result ≡ option_rule name.entry.now required }
+    ensures local { result.global ≡ false }
+{
+    Arg::new(alloc, name)
+        .long(name)
         .action(ArgAction::Set)
-        .required(true);
-    let region = Arg::new(alloc, "region")
-        .long("region")
-        .action(ArgAction::Set);
-    Command::new(alloc, "presign").arg(key)?.arg(region)
+        .required(required)
+}
+
+fn flag<'a>(alloc: Global, name: &'a str) -> Arg<'a>
+    ensures rule { rule_of result ≡ flag_rule name.entry.now }
+    ensures local { result.global ≡ false }
+{
+    Arg::new(alloc, name).long(name).action(ArgAction::SetTrue)
 }
