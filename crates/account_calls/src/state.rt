@@ -6,7 +6,7 @@ ghost use Rattle.swift_calls.specs.Step.{Fit};
 ghost use Rattle.upload_records.specs.Native.{IsSettled};
 ghost use Rattle.account_calls.specs.Lent.{Stays};
 
-use gate_base::List;
+use gate_base::{List, drop};
 use list_pages::{PageFault, names};
 use s3_machine::Settings;
 use std::alloc::Global;
@@ -89,5 +89,7 @@ pub fn ask<W: Swift>(store: &mut W, request: SwiftRequest) -> Result<SwiftReply,
     requires { Fit request }
     ensures { Calls (W.history store.old) (W.history store.new) request result }
 {
-    store.call(&request)
+    let answer = store.call(&request);
+    drop(request);
+    answer
 }

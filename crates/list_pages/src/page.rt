@@ -5,7 +5,7 @@ ghost use Rattle.swift_calls.specs.Step.{Fit};
 ghost use Rattle.list_pages.specs.Listing.{follows, is_listed_name_with_prefix, name_in, page_request, AsksPage, ComesTo, FindsOdd, IsFaultOf, IsPageOf};
 
 use crate::PageFault;
-use gate_base::{Bytes, List, Memory};
+use gate_base::{Bytes, List, Memory, drop};
 use s3_machine::begins;
 use s3_names::is_key;
 use std::alloc::Global;
@@ -42,7 +42,9 @@ fn ask_names_page<W: Swift>(store: &mut W, request: SwiftRequest) -> Result<Swif
     requires { Fit request }
     ensures { Calls (W.history store.old) (W.history store.new) request result }
 {
-    store.call(&request)
+    let answer = store.call(&request);
+    drop(request);
+    answer
 }
 
 /// The call that asks for a page.

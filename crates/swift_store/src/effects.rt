@@ -9,7 +9,7 @@ ghost use Rattle.swift_store.specs.Shelf.{ShelfKeeps, ShelfWrites, Writes};
 ghost use Rattle.swift_store.specs.Serving.{TagsBody, TagsList, TagsWith, etag_in, is_gone_reply};
 
 use crate::{Shelf, StoreFault};
-use gate_base::{Bytes, List};
+use gate_base::{Bytes, List, drop};
 use slo_manifest::Segment;
 use swift_calls::{Content, ReadList, Stored, SwiftReply, SwiftRequest};
 
@@ -247,24 +247,27 @@ fn apply_other_call_to_shelf<S: Shelf>(
             segments,
             reply,
         ),
-        other => apply_owned_call_to_shelf(shelf, other, &reply),
+        other => apply_owned_call_to_shelf(shelf, other, reply),
     }
 }
 
-/// Writes what any other call writes, and lets go of the call.
+/// Writes what any other call writes, and lets go of the call and its reply.
 fn apply_owned_call_to_shelf<S: Shelf>(
     shelf: &mut S,
     call: SwiftRequest,
-    reply: &SwiftReply,
+    reply: SwiftReply,
 ) -> Result<(), StoreFault>
     requires fit { Fit call }
     ensures keeps { ShelfKeeps (S.model shelf.old) result (S.model shelf.new) }
     ensures effect { IsTrue (S.model shelf.old).observable
-        → reply.now ≡ (swift_step (call) (S.model shelf.old).account).reply
+        → reply ≡ (swift_step (call) (S.model shelf.old).account).reply
         → Writes (S.model shelf.old).account (swift_step (call) (S.model shelf.old).account).tree
         (S.model shelf.new).account result }
 {
-    apply_lent_call_to_shelf(shelf, &call, reply)
+    let done = apply_lent_call_to_shelf(shelf, &call, &reply);
+    drop(call);
+    drop(reply);
+    done
 }
 
 /// The same, of a call that is lent. A PUT of an object doesn't come here, of bytes or of segments.
