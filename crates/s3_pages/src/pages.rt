@@ -17,7 +17,7 @@ use crate::uploads::{
 };
 use crate::xml::Xml;
 use crate::{codes, texts};
-use gate_base::{Bytes, List, Memory, Page, Pair};
+use gate_base::{Bytes, List, Memory, Page, Pair, drop};
 use s3_machine::{Code, Label, ObjectHead, Reply};
 use std::alloc::Global;
 
@@ -42,7 +42,11 @@ pub fn page(alloc: Global, reply: Reply, label: &Label, resource: &[u8]) -> Resu
             partial,
             body,
         } => object_reply_page(alloc, &head, from, length, partial, body, label),
-        other => other_page(alloc, &other, label, resource),
+        other => {
+            let page = other_page(alloc, &other, label, resource);
+            drop(other);
+            page
+        }
     }
 }
 
