@@ -2,7 +2,7 @@
 use crate::s3_verbs::caller_of_word;
 use crate::s3_verbs_message::message_of_case;
 use crate::settings::{USUAL_LARGEST_BODY, USUAL_LEAST_PART, USUAL_REGION, settings_of_region};
-use case_text::{Told, cut_text, tell_copy_of_value, tell_owned_value};
+use case_text::{Told, cut_text, tell_owned_value, tell_value};
 use gate_base::{Caller, drop};
 use http_wire::Message;
 use s3_machine::{Code, Settings};
@@ -64,6 +64,6 @@ fn settings_of_verb(alloc: Global, verb: &str, told: &mut Told) -> Option<Settin
 fn tell_meant(verb: &str, meant: &Meant, told: &mut Told) {
     match meant {
         Meant::Op(_) if verb.ends_with("code") => told.say("operation\n"),
-        _ => tell_copy_of_value(meant, told),
+        _ => tell_value(meant, told),
     }
 }

@@ -80,25 +80,28 @@ fn tell_page_of_fields(
     let fields = message.headers.as_slice();
     let reply = reply_of_fields(alloc, name, fields, &message.body, told);
     let resource = first_value(fields, b"resource");
-    tell_page_of_copy(alloc, &reply, label, resource, told);
-    drop(reply);
+    if is_shown_reply(&reply) && label.moment < MOMENT_LIMIT {
+        tell_page_of_shown_reply(alloc, reply, label, resource, told);
+    } else {
+        drop(reply);
+        told.note_fault(Fault::Unread("a reply without a page"));
+    }
 }
 
-/// Tells the page of a copy of a reply.
-fn tell_page_of_copy(
+/// Tells the page of a reply that has one.
+fn tell_page_of_shown_reply(
     alloc: Global,
-    reply: &Reply,
+    reply: Reply,
     label: &Label,
     resource: &[u8],
     told: &mut Told,
-) {
-    if !is_shown_reply(reply) || label.moment >= MOMENT_LIMIT {
-        return told.note_fault(Fault::Unread("a reply without a page"));
-    }
-    if let Ok(copied) = reply.copy() {
-        if let Some(page) = told.keep_made(page(alloc, copied, label, resource)) {
-            tell_copy_of_value(&page, told);
-        }
+)
+    requires reply { reply ≢ Reply.Memory }
+    requires showable { IsShowable reply }
+    requires moment { label.now.moment < moment_limit }
+{
+    if let Some(page) = told.keep_made(page(alloc, reply, label, resource)) {
+        tell_copy_of_value(&page, told);
     }
 }
 

@@ -11,10 +11,8 @@ mod etag;
 mod items;
 mod laws;
 mod limits;
-mod op_copy;
 mod operation;
 mod reading;
-mod reply_copy;
 
 pub use access::{is_other_acl, may_read};
 pub use body::Body;

@@ -21,7 +21,7 @@ use crate::query::{has_foreign_name, has_unknown_name};
 use crate::rows::{Level, Row, is_method, is_same_level, level_of, row_for, shape_of};
 use crate::taken::Taken;
 use crate::uploads::taken_listed_parts;
-use gate_base::{Caller, Copying, List, Memory};
+use gate_base::{Caller, List, Memory};
 use http_wire::Message;
 use request_fields::{
     Source, given_acl, has_bad_digest, has_bad_entry, has_bad_number, has_bad_token, has_bad_word,
@@ -41,16 +41,6 @@ pub enum Meant {
     Refused(Code),
     /// Memory ran out.
     Memory,
-}
-
-impl Copying for Meant {
-    fn copy(&self) -> Result<Meant, Memory> {
-        match self {
-            Meant::Op(op) => Ok(Meant::Op(op.copy()?)),
-            Meant::Refused(code) => Ok(Meant::Refused(*code)),
-            Meant::Memory => Ok(Meant::Memory),
-        }
-    }
 }
 
 /// What a request means whose target was read (Amazon S3 API Reference, restated by this profile): the operation that it
