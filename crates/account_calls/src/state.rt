@@ -6,11 +6,11 @@ ghost use Rattle.swift_calls.specs.Step.{Fit};
 ghost use Rattle.upload_records.specs.Native.{IsSettled};
 ghost use Rattle.account_calls.specs.Lent.{Stays};
 
-use gate_base::{List, drop};
+use gate_base::List;
 use list_pages::{PageFault, names};
 use s3_machine::Settings;
 use std::alloc::Global;
-use swift_calls::{NameItem, Swift, SwiftFault, SwiftReply, SwiftRequest};
+use swift_calls::{NameItem, Swift, SwiftFault, SwiftReply, SwiftRequest, drop_request};
 
 /// What is known of a store between two operations.
 #[derive(Clone, Copy, Debug, PartialEq, Eq)]
@@ -90,6 +90,6 @@ pub fn ask<W: Swift>(store: &mut W, request: SwiftRequest) -> Result<SwiftReply,
     ensures { Calls (W.history store.old) (W.history store.new) request result }
 {
     let answer = store.call(&request);
-    drop(request);
+    drop_request(request);
     answer
 }

@@ -5,11 +5,11 @@ ghost use Rattle.swift_calls.specs.Step.{Fit};
 ghost use Rattle.list_pages.specs.Listing.{follows, is_listed_name_with_prefix, name_in, page_request, AsksPage, ComesTo, FindsOdd, IsFaultOf, IsPageOf};
 
 use crate::PageFault;
-use gate_base::{Bytes, List, Memory, drop};
+use gate_base::{Bytes, List, Memory};
 use s3_machine::begins;
 use s3_names::is_key;
 use std::alloc::Global;
-use swift_calls::{NameItem, Swift, SwiftFault, SwiftReply, SwiftRequest};
+use swift_calls::{NameItem, Swift, SwiftFault, SwiftReply, SwiftRequest, drop_request};
 
 /// How many names a page has at most (Object Storage API v1 lets a store give 10,000).
 pub const MOST_NAMES: u32 = 1000;
@@ -43,7 +43,7 @@ fn ask_names_page<W: Swift>(store: &mut W, request: SwiftRequest) -> Result<Swif
     ensures { Calls (W.history store.old) (W.history store.new) request result }
 {
     let answer = store.call(&request);
-    drop(request);
+    drop_request(request);
     answer
 }
 

@@ -4,6 +4,7 @@
 
 mod account;
 mod calls;
+mod drops;
 mod fits;
 mod heads;
 mod laws;
@@ -11,6 +12,7 @@ mod outcome;
 
 pub use account::{Content, ReadList, Stored};
 pub use calls::{Swift, SwiftFault, SwiftReply, SwiftRequest};
+pub use drops::{drop_reply, drop_request};
 pub use fits::is_fit;
 pub use heads::{NameItem, StoredHead};
 pub use laws::{law_reads_keep, law_reads_leave};

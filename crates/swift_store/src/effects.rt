@@ -9,9 +9,9 @@ ghost use Rattle.swift_store.specs.Shelf.{ShelfKeeps, ShelfWrites, Writes};
 ghost use Rattle.swift_store.specs.Serving.{TagsBody, TagsList, TagsWith, etag_in, is_gone_reply};
 
 use crate::{Shelf, StoreFault};
-use gate_base::{Bytes, List, drop};
+use gate_base::{Bytes, List};
 use slo_manifest::Segment;
-use swift_calls::{Content, ReadList, Stored, SwiftReply, SwiftRequest};
+use swift_calls::{Content, ReadList, Stored, SwiftReply, SwiftRequest, drop_reply, drop_request};
 
 fn is_gone_reply(reply: &SwiftReply) -> bool
     ensures { result ≡ is_gone_reply reply.now }
@@ -265,8 +265,8 @@ fn apply_owned_call_to_shelf<S: Shelf>(
         (S.model shelf.new).account result }
 {
     let done = apply_lent_call_to_shelf(shelf, &call, &reply);
-    drop(call);
-    drop(reply);
+    drop_request(call);
+    drop_reply(reply);
     done
 }
 
