@@ -113,11 +113,16 @@ impl Copying for Bytes {
 impl Debug for Bytes {
     fn fmt<W: Write>(&self, f: &mut Formatter<W>) -> fmt::Result {
         f.write_str("\"")?;
-        for byte in &self.items {
-            write_byte(f, *byte)?;
-        }
+        write_all_bytes(f, &self.items)?;
         f.write_str("\"")
     }
+}
+
+fn write_all_bytes<W: Write>(f: &mut Formatter<W>, bytes: &[u8]) -> fmt::Result {
+    for byte in bytes {
+        write_byte(f, *byte)?;
+    }
+    Ok(())
 }
 
 fn write_byte<W: Write>(f: &mut Formatter<W>, byte: u8) -> fmt::Result {
@@ -227,8 +232,16 @@ impl<T: Copying + Drop> Copying for List<T> {
     fn copy(&self) -> Result<List<T>, Memory> {
         let mut items = Vec::with_capacity(*self.items.allocator(), self.items.len())?;
         for item in &self.items {
-            items.push(item.copy()?)?;
+            push_copy(&mut items, item)?;
         }
         Ok(List { items })
     }
+}
+
+/// Adds a copy of an item at the end.
+fn push_copy<T: Copying + Drop>(items: &mut Vec<T>, item: &T) -> Result<(), Memory>
+    ensures { OnOk result (items.new.items ≡ items.old.items ++ item.now ∷ []) }
+{
+    items.push(item.copy()?)?;
+    Ok(())
 }
