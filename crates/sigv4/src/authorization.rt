@@ -1,6 +1,7 @@
 ghost use Rattle.std.specs.Prelude.{◌≡◌, drop, IfOk};
-ghost use Rattle.std.specs.List.{list_all, starts_with, slice_split};
-ghost use Rattle.sigv4.specs.Authorization.{is_credential_byte, is_part, is_name_byte, is_name, signed_name_stands_before, are_ascending, are_names, is_hex, is_formed, is_semicolon, skip_spaces, algorithm_section, credential_section, names_section, signature_section, behind_service, credential_of, is_labelled, parts_of, authorization_of};
+ghost use Rattle.std.specs.List.{before_first, list_all, starts_with, slice_split};
+ghost use Rattle.gate_base.specs.Ascii.{is_slash};
+ghost use Rattle.sigv4.specs.Authorization.{is_credential_byte, is_part, is_name_byte, is_name, signed_name_stands_before, are_ascending, are_names, is_hex, is_formed, is_semicolon, skip_spaces, algorithm_section, credential_section, names_section, signature_section, behind_id, behind_date, behind_region, behind_service, credential_of, is_labelled, parts_of, authorization_of};
 
 use gate_base::{Bytes, List, Memory, cut, first_place};
 use httparse::is_header_name_token;
@@ -58,7 +59,32 @@ fn is_labelled(text: &[u8]) -> bool
 fn authorization_parts(alloc: Global, text: &[u8]) -> Result<Authorization, Memory>
     ensures { IfOk result (λ parts. parts ≡ parts_of text.now) }
 {
-    let (id, behind_id) = cut(credential_of(text), b'/');
+    authorization_from(
+        alloc,
+        credential_of(text),
+        skip_authorization_bytes(signed_names_section(text), 14),
+        skip_authorization_bytes(signature_section(text), 10),
+    )
+}
+
+/// The parts of a credential `ID/DATE/REGION/SERVICE/aws4_request`, of signed names with `;` between each two and of a
+/// signature, in whatever form.
+pub fn authorization_from(
+    alloc: Global,
+    credential: &[u8],
+    names: &[u8],
+    signature: &[u8],
+) -> Result<Authorization, Memory>
+    ensures { IfOk result (λ parts. parts ≡ record {
+      id = before_first is_slash credential.now;
+      date = before_first is_slash (behind_id credential.now);
+      region = before_first is_slash (behind_date credential.now);
+      service = before_first is_slash (behind_region credential.now);
+      names = slice_split is_semicolon names.now;
+      signature = signature.now;
+    }) }
+{
+    let (id, behind_id) = cut(credential, b'/');
     let (date, behind_date) = cut(behind_id, b'/');
     let (region, behind_region) = cut(behind_date, b'/');
     let (service, _) = cut(behind_region, b'/');
@@ -67,11 +93,8 @@ fn authorization_parts(alloc: Global, text: &[u8]) -> Result<Authorization, Memo
         date: Bytes::from_slice(alloc, date)?,
         region: Bytes::from_slice(alloc, region)?,
         service: Bytes::from_slice(alloc, service)?,
-        names: signed_names_in(
-            alloc,
-            skip_authorization_bytes(signed_names_section(text), 14),
-        )?,
-        signature: Bytes::from_slice(alloc, skip_authorization_bytes(signature_section(text), 10))?,
+        names: signed_names_in(alloc, names)?,
+        signature: Bytes::from_slice(alloc, signature)?,
     })
 }
 

@@ -12,9 +12,12 @@ mod pieces;
 mod refusal;
 mod request;
 mod signature;
+mod texts;
 mod verdict;
 
-pub use authorization::{Authorization, behind_service, is_formed, signed_names_in};
+pub use authorization::{
+    Authorization, authorization_from, behind_service, is_formed, signed_names_in,
+};
 pub use hash::hmac;
 pub use keys::{AccessKey, Keys, KeysFault};
 pub use laws::{law_authorization_read, law_query_ordered};
@@ -23,6 +26,7 @@ pub use pieces::{Seal, verify_head};
 pub use refusal::Refusal;
 pub use request::{canonical, canonical_query, canonical_with};
 pub use signature::{Signed, date_of, is_date_time, sign};
+pub use texts::concatenated;
 pub use verdict::{
     has_signed_pieces, has_wrong_scope, hash_of, is_among, signature_differs, time_of, verify,
 };

@@ -1,9 +1,10 @@
-ghost use Rattle.std.specs.Prelude.{◌≡◌, ◌==◌, ◌++◌, map, IfOk, OnOk};
+ghost use Rattle.std.specs.Prelude.{◌≡◌, ◌==◌, map, IfOk};
 ghost use Rattle.http_wire.specs.Headers.{values_of};
 ghost use Rattle.gate_base.specs.Ascii.{is_blank};
 ghost use Rattle.sigv4.specs.Canonical.{skip_blanks, trim_canonical_end, begins_with_canonical_space, single_spaced, clean_header_value, canonical_header, canonical_headers, escaped_pair, pair_cmp, ordered, pair_text, canonical_query, canonical_of, canonical_text};
 
-use gate_base::{Bytes, Copying, List, Memory, Pair};
+use crate::texts::concatenated;
+use gate_base::{Bytes, List, Memory, Pair};
 use http_wire::{Message, has_name, joined};
 use s3_names::{Target, encode_all, encode_path};
 use std::alloc::Global;
@@ -40,15 +41,18 @@ pub fn canonical_with(
     ensures { IfOk result (λ text. text ≡ canonical_of message.now.method path.now query.now
         message.now.headers names.now payload.now) }
 {
-    let parts = [
-        message.method.copy()?,
-        encode_path(alloc, path)?,
-        canonical_query(alloc, query)?,
-        canonical_headers(alloc, message.headers.as_slice(), names)?,
-        joined(alloc, b';', names)?,
-        Bytes::from_slice(alloc, payload)?,
-    ];
-    joined(alloc, b'\n', &parts)
+    let path = encode_path(alloc, path)?;
+    let query = canonical_query(alloc, query)?;
+    let headers = canonical_headers(alloc, message.headers.as_slice(), names)?;
+    let names = joined(alloc, b';', names)?;
+    let (method, path, query) = (message.method.as_slice(), path.as_slice(), query.as_slice());
+    let (headers, names, line) = (headers.as_slice(), names.as_slice(), b"\n".as_slice());
+    concatenated(
+        alloc,
+        &[
+            method, line, path, line, query, line, headers, line, names, line, payload,
+        ],
+    )
 }
 
 fn canonical_headers(alloc: Global, headers: &[Pair], names: &[Bytes]) -> Result<Bytes, Memory>
@@ -56,25 +60,17 @@ fn canonical_headers(alloc: Global, headers: &[Pair], names: &[Bytes]) -> Result
 {
     let mut text = Bytes::new(alloc);
     for name in names {
-        append_canonical_header(alloc, &mut text, headers, name.as_slice())?;
+        text.append(canonical_header(alloc, headers, name.as_slice())?.as_slice())?;
     }
     Ok(text)
 }
 
-fn append_canonical_header(
-    alloc: Global,
-    text: &mut Bytes,
-    headers: &[Pair],
-    name: &[u8],
-) -> Result<(), Memory>
-    ensures { OnOk result (text.new ≡ text.old ++ canonical_header headers.now name.now) }
+fn canonical_header(alloc: Global, headers: &[Pair], name: &[u8]) -> Result<Bytes, Memory>
+    ensures { IfOk result (λ text. text ≡ canonical_header headers.now name.now) }
 {
     let values = clean_values(alloc, headers, name)?;
     let value = joined(alloc, b',', values.as_slice())?;
-    text.append(name)?;
-    text.push(b':')?;
-    text.append(value.as_slice())?;
-    text.push(b'\n')
+    concatenated(alloc, &[name, b":", value.as_slice(), b"\n"])
 }
 
 /// The values of the headers of a name, without the blanks around them and in single spacing.
@@ -214,8 +210,5 @@ fn pair_texts(alloc: Global, pairs: &[Pair]) -> Result<List<Bytes>, Memory>
 fn pair_text(alloc: Global, pair: &Pair) -> Result<Bytes, Memory>
     ensures { IfOk result (λ text. text ≡ pair_text pair.now) }
 {
-    let mut text = pair.name.copy()?;
-    text.push(b'=')?;
-    text.append(pair.value.as_slice())?;
-    Ok(text)
+    concatenated(alloc, &[pair.name.as_slice(), b"=", pair.value.as_slice()])
 }

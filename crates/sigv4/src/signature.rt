@@ -1,7 +1,8 @@
-ghost use Rattle.std.specs.Prelude.{◌≡◌, [], ◌∷◌, ◌++◌, true, bytes_eq, IfOk, OnOk};
+ghost use Rattle.std.specs.Prelude.{◌≡◌, true, bytes_eq, IfOk};
 ghost use Rattle.sigv4.specs.Sign.{is_date_time, date_of, scope_of, string_to_sign, signing_key, signature_of, signed_of};
 
 use crate::hash::hmac;
+use crate::texts::concatenated;
 use gate_base::{Bytes, Memory};
 use sha2::{Digest, Sha256};
 use std::alloc::Global;
@@ -79,11 +80,7 @@ pub fn date_of(date_time: &[u8]) -> &[u8]
 pub(crate) fn scope_of(alloc: Global, date: &[u8], region: &[u8]) -> Result<Bytes, Memory>
     ensures { IfOk result (λ scope. scope ≡ scope_of date.now region.now) }
 {
-    let mut scope = Bytes::from_slice(alloc, date)?;
-    scope.push(b'/')?;
-    scope.append(region)?;
-    scope.append(b"/s3/aws4_request")?;
-    Ok(scope)
+    concatenated(alloc, &[date, b"/", region, b"/s3/aws4_request"])
 }
 
 fn string_to_sign(
@@ -94,19 +91,12 @@ fn string_to_sign(
 ) -> Result<Bytes, Memory>
     ensures { IfOk result (λ text. text ≡ string_to_sign date_time.now scope.now hash.now) }
 {
-    let mut text = Bytes::from_slice(alloc, b"AWS4-HMAC-SHA256\n")?;
-    append_lines_to_sign(&mut text, date_time, scope)?;
-    text.append(hex::encode(alloc, *hash)?.as_bytes())?;
-    Ok(text)
-}
-
-fn append_lines_to_sign(text: &mut Bytes, first: &[u8], second: &[u8]) -> Result<(), Memory>
-    ensures { OnOk result (text.new ≡ text.old ++ first.now ++ 10 ∷ [] ++ second.now ++ 10 ∷ []) }
-{
-    text.append(first)?;
-    text.push(b'\n')?;
-    text.append(second)?;
-    text.push(b'\n')
+    let digits = hex::encode(alloc, *hash)?;
+    let hash = digits.as_bytes();
+    concatenated(
+        alloc,
+        &[b"AWS4-HMAC-SHA256\n", date_time, b"\n", scope, b"\n", hash],
+    )
 }
 
 pub(crate) fn signing_key(
@@ -117,8 +107,7 @@ pub(crate) fn signing_key(
 ) -> Result<[u8; 32], Memory>
     ensures { IfOk result (λ key. key ≡ signing_key secret.now date.now region.now) }
 {
-    let mut key = Bytes::from_slice(alloc, b"AWS4")?;
-    key.append(secret)?;
+    let key = concatenated(alloc, &[b"AWS4", secret])?;
     let of_date = hmac(key.as_slice(), date);
     let of_region = hmac(&of_date, region);
     let of_service = hmac(&of_region, b"s3");
