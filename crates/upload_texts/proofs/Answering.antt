@@ -10,8 +10,8 @@ use Rattle.s3_names.specs.Bucket.{is_bucket}
 use Rattle.s3_names.specs.Key.{is_key}
 use Rattle.slo_manifest.specs.Manifest.{json_of}
 use Rattle.upload_texts.specs.Places.{json_or_null, version_in, version_of}
-use Rattle.upload_texts.specs.Records.{has_record_text, is_known_version, read_record, record_in, record_text, record_value, unless_known_record_version, Parses, ReadsRecord}
-use Rattle.upload_texts.specs.Sealed.{has_sealed_text, is_first_version, read_sealed, sealed_in, sealed_text, sealed_value, ReadsSealed}
+use Rattle.upload_texts.specs.Records.{has_record_text, is_known_version, read_record, record_in, record_text, record_value, unless_known_record_version, MatchesRecord, Parses, ReadsRecord}
+use Rattle.upload_texts.specs.Sealed.{has_sealed_text, is_first_version, read_sealed, sealed_in, sealed_text, sealed_value, MatchesSealed, ReadsSealed}
 use Rattle.upload_texts.specs.declared.record.Record.{Record}
 use Rattle.upload_texts.specs.declared.record.RecordFault.{RecordFault}
 use Rattle.upload_texts.specs.declared.record.RecordFault.TheVariants.{NotARecord, Version, Memory}
@@ -100,3 +100,15 @@ module _ (text : List ℕ) where
           ∙ found_none has_sealed_text sealed_text text (sealed_in d) s _ refl same other,
       sealed_version None known,
     )
+
+    pub record_unmatched : (r : Record) (fault : RecordFault) → (has_record_text (record_in d) ≡ true → r ≡ record_in d) → MatchesRecord r text (Err fault)
+        → unless_known_record_version is_known_version (version_in d) ≡ None → ReadsRecord text (Err fault)
+    record_unmatched r NotARecord same other known = record_refused r same other known
+    record_unmatched r (Version version) same never known = absurd never
+    record_unmatched r Memory same h known = tt
+
+    pub sealed_unmatched : (s : Sealed) (fault : RecordFault) → (has_sealed_text (sealed_in d) ≡ true → s ≡ sealed_in d) → MatchesSealed s text (Err fault)
+        → unless_known_record_version is_first_version (version_in d) ≡ None → ReadsSealed text (Err fault)
+    sealed_unmatched s NotARecord same other known = sealed_refused s same other known
+    sealed_unmatched s (Version version) same never known = absurd never
+    sealed_unmatched s Memory same h known = tt

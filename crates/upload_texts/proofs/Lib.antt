@@ -1,4 +1,5 @@
 pub mod Answering
+pub mod Fields
 pub mod Json
 pub mod Levels
 pub mod Limits

@@ -1,4 +1,5 @@
 pub mod Laws
+pub mod Members
 pub mod Places
 pub mod Records
 pub mod Sealed

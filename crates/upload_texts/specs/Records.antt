@@ -1,9 +1,9 @@
 -- The record of an upload as a text: compact JSON with the names of an object in byte order. An open upload, and a
 -- completion whose moment isn't known, have version 1; a completion whose moment is known has version 2. Source: this profile.
-use Rattle.std.specs.Prelude.{◌≡◌, ⊤, ℕ, Bool, true, ◌&&◌, ◌==◌, ◌||◌, nat_lt, cond, List, map, length, bytes_eq, Option, None, Some, codes, Result, Ok, Err}
+use Rattle.std.specs.Prelude.{◌≡◌, ⊤, ℕ, Bool, true, false, ◌&&◌, ◌==◌, ◌||◌, nat_lt, cond, List, map, length, bytes_eq, Option, None, Some, codes, Result, Ok, Err}
 use Rattle.std.specs.Option.{option_map_or}
 use Rattle.std.specs.List.{list_all}
-use Rattle.serde_json.specs.Data.{Data, object, number, unsigned, string, no_members, member, Members, put as with_member}
+use Rattle.serde_json.specs.Data.{Data, object, number, unsigned, string, no_members, member, Members}
 use Rattle.serde_json.specs.Find.{get}
 use Rattle.serde_json.specs.View.{view}
 use Rattle.serde_json.specs.declared.value.Value.{Value}
@@ -56,23 +56,11 @@ open_record_object started key meta content_type =
 abbrev pub open_record_json : List ℕ → List ℕ → List Pair → ℕ → Data
 open_record_json key content_type meta started = open_record_object started key (array_of metadata_pair_json meta) content_type
 
--- the members behind the moment, put one after another
-abbrev pub open_put : List ℕ → Data → List ℕ → Members → Members
-open_put key meta content_type ms =
-    with_member (codes "v") (number (unsigned 1)) (with_member (codes "type") (string content_type) (with_member (codes "state") (string (codes "open"))
-    (with_member (codes "meta") meta (with_member (codes "key") (string key) ms))))
-
 -- what stands behind the moment, in each version
 abbrev pub done_members : List ℕ → List ℕ → Data → ℕ → Members
 done_members etag key list version =
     member (codes "etag") (string etag) (member (codes "key") (string key) (member (codes "list") list
     (member (codes "state") (string (codes "done")) (member (codes "v") (number (unsigned version)) no_members))))
-
--- these members, put one after another
-abbrev pub done_put : List ℕ → List ℕ → Data → ℕ → Members → Members
-done_put etag key list version ms =
-    with_member (codes "v") (number (unsigned version)) (with_member (codes "state") (string (codes "done"))
-    (with_member (codes "list") list (with_member (codes "key") (string key) (with_member (codes "etag") (string etag) ms))))
 
 -- a completion whose moment isn't known, and one whose moment is
 abbrev pub undated_record_json : ℕ → List ℕ → List ℕ → Data → Data
@@ -141,3 +129,10 @@ Parses text (Ok value) = json_of text ≡ Some (view value)
 Parses text (Err NotARecord) = json_of text ≡ None
 Parses text (Err (Version version)) = ⊥
 Parses text (Err Memory) = ⊤
+
+-- whether a text is the record's, or memory ran out
+abbrev pub MatchesRecord : Record → List ℕ → Result Unit RecordFault → Type 0
+MatchesRecord r text (Ok done) = read_record text ≡ Some r
+MatchesRecord r text (Err NotARecord) = has_record_text r ≡ true → bytes_eq (record_text r) text ≡ false
+MatchesRecord r text (Err (Version version)) = ⊥
+MatchesRecord r text (Err Memory) = ⊤

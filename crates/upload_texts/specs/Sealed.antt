@@ -1,7 +1,7 @@
 -- A completion that is sealed, as a text: compact JSON with the names of an object in byte order. Source: this profile.
-use Rattle.std.specs.Prelude.{◌≡◌, ⊤, ℕ, ◌^◌, Bool, ◌&&◌, ◌==◌, nat_le, nat_lt, cond, List, map, length, bytes_eq, Option, None, Some, codes, Result, Ok, Err}
+use Rattle.std.specs.Prelude.{◌≡◌, ⊤, ℕ, true, false, ◌^◌, Bool, ◌&&◌, ◌==◌, nat_le, nat_lt, cond, List, map, length, bytes_eq, Option, None, Some, codes, Result, Ok, Err}
 use Rattle.std.specs.List.{list_all}
-use Rattle.serde_json.specs.Data.{Data, array, object, number, unsigned, string, no_items, item, Members, no_members, member, put as with_member}
+use Rattle.serde_json.specs.Data.{Data, array, object, number, unsigned, string, no_items, item, no_members, member}
 use Rattle.serde_json.specs.Find.{get, at}
 use Rattle.serde_json.specs.Written.{compact_text}
 use Rattle.gate_base.specs.Told.{moment_limit}
@@ -49,17 +49,6 @@ sealed_object moment bucket etag id key list meta started content_type =
     (member (codes "meta") meta (member (codes "started") (number (unsigned started)) (member (codes "type") (string content_type)
     (member (codes "v") (number (unsigned 1)) no_members))))))))))
 
--- its members, put one after another
-abbrev pub names_put : ℕ → List ℕ → List ℕ → List ℕ → List ℕ → Members → Members
-names_put moment bucket etag id key ms =
-    with_member (codes "key") (string key) (with_member (codes "id") (string id) (with_member (codes "etag") (string etag)
-    (with_member (codes "bucket") (string bucket) (with_member (codes "at") (number (unsigned moment)) ms))))
-
-abbrev pub rest_put : Data → Data → ℕ → List ℕ → Members → Members
-rest_put list meta started content_type ms =
-    with_member (codes "v") (number (unsigned 1)) (with_member (codes "type") (string content_type) (with_member (codes "started") (number (unsigned started))
-    (with_member (codes "meta") meta (with_member (codes "list") list ms))))
-
 abbrev pub sealed_value : Sealed → Data
 sealed_value s = sealed_object s.moment s.bucket s.etag (id_digits s.id) s.key (array_of sealed_part_json s.list) (array_of metadata_pair_json s.meta) s.started s.content_type
 
@@ -102,3 +91,10 @@ ReadsSealed text (Ok s) = read_sealed text ≡ Some s
 ReadsSealed text (Err NotARecord) = (read_sealed text ≡ None) × (unless_known_record_version is_first_version (version_of text) ≡ None)
 ReadsSealed text (Err (Version version)) = unless_known_record_version is_first_version (version_of text) ≡ Some version
 ReadsSealed text (Err Memory) = ⊤
+
+-- whether a text is the sealed completion's, or memory ran out
+abbrev pub MatchesSealed : Sealed → List ℕ → Result Unit RecordFault → Type 0
+MatchesSealed s text (Ok done) = read_sealed text ≡ Some s
+MatchesSealed s text (Err NotARecord) = has_sealed_text s ≡ true → bytes_eq (sealed_text s) text ≡ false
+MatchesSealed s text (Err (Version version)) = ⊥
+MatchesSealed s text (Err Memory) = ⊤

@@ -1,49 +1,64 @@
-//! The members of an object of JSON, put one after another.
-ghost use Rattle.std.specs.Prelude.{◌≡◌, OnOk};
-ghost use Rattle.serde_json.specs.Data.{number, put as with_member, string, unsigned};
-ghost use Rattle.serde_json.specs.View.{members_view, view};
+//! Objects and arrays of JSON, of what is put one after another.
+ghost use Rattle.std.specs.Prelude.{◌≡◌, IfOk};
+ghost use Rattle.serde_json.specs.Data.{no_members, object};
+ghost use Rattle.serde_json.specs.View.{view};
+ghost use Rattle.upload_texts.specs.Places.{array_of};
+ghost use Rattle.upload_texts.specs.Members.{field_json, with_fields};
 
 use gate_base::Memory;
 use serde_json::{Map, ToValue, Value, put};
 use std::alloc::Global;
 
-pub(crate) fn put_record_field_text(
-    map: &mut Map<String, Value>,
-    alloc: Global,
-    key: &str,
-    text: &str,
-) -> Result<(), Memory>
-    ensures { OnOk result (members_view map.new.entries ≡ with_member key.now (string text.now)
-        (members_view map.old.entries)) }
-{
-    let value = text.to_value(alloc)?;
-    put(map, alloc, key, value)?;
-    Ok(())
+/// A member: its name, and what it says.
+#[derive(Clone, Copy)]
+pub(crate) struct Member<'a> {
+    pub name: &'a str,
+    pub field: Field<'a>,
 }
 
-pub(crate) fn put_record_field_value(
-    map: &mut Map<String, Value>,
-    alloc: Global,
-    key: &str,
-    value: &Value,
-) -> Result<(), Memory>
-    ensures { OnOk result (members_view map.new.entries ≡ with_member key.now (view value.now)
-        (members_view map.old.entries)) }
-{
-    let value = value.to_value(alloc)?;
-    put(map, alloc, key, value)?;
-    Ok(())
+/// What a member of an object, or an item of an array, says.
+#[derive(Clone, Copy)]
+pub(crate) enum Field<'a> {
+    Text(&'a str),
+    Number(u64),
+    Json(&'a Value),
 }
 
-pub(crate) fn put_record_field_number(
-    map: &mut Map<String, Value>,
-    alloc: Global,
-    key: &str,
-    count: u64,
-) -> Result<(), Memory>
-    ensures { OnOk result (members_view map.new.entries ≡ with_member key.now
-        (number (unsigned count)) (members_view map.old.entries)) }
+/// The object that has these members. Of those with one name the last counts.
+#[tactic(auto, using(crate::proofs::Fields::fields_more))]
+pub(crate) fn record_object(alloc: Global, members: &[Member<'_>]) -> Result<Value, Memory>
+    ensures { IfOk result (λ value. view value ≡ object (with_fields members.now no_members)) }
 {
-    put(map, alloc, key, Value::from(count))?;
-    Ok(())
+    let mut map = Map::new(alloc);
+    for member in members {
+        put(
+            &mut map,
+            alloc,
+            member.name,
+            field_json(alloc, &member.field)?,
+        )?;
+    }
+    Ok(Value::Object(map))
+}
+
+/// The array of what these say.
+#[tactic(auto, using(crate::proofs::Lists::map_more))]
+pub(crate) fn record_array(alloc: Global, fields: &[Field<'_>]) -> Result<Value, Memory>
+    ensures { IfOk result (λ value. view value ≡ array_of field_json fields.now) }
+{
+    let mut values = Vec::new(alloc);
+    for field in fields {
+        values.push(field_json(alloc, field)?)?;
+    }
+    Ok(Value::Array(values))
+}
+
+fn field_json(alloc: Global, field: &Field<'_>) -> Result<Value, Memory>
+    ensures { IfOk result (λ value. view value ≡ field_json field.now) }
+{
+    match field {
+        Field::Text(text) => Ok(text.to_value(alloc)?),
+        Field::Number(number) => Ok(Value::from(*number)),
+        Field::Json(value) => Ok(value.to_value(alloc)?),
+    }
 }

@@ -1,13 +1,13 @@
 //! Records of uploads.
-ghost use Rattle.std.specs.Prelude.{◌≡◌, IfOk, None, Ok, OnOk, Some, true};
-ghost use Rattle.serde_json.specs.View.{members_view, view};
+ghost use Rattle.std.specs.Prelude.{◌≡◌, IfOk, None, Ok, Some, true};
+ghost use Rattle.serde_json.specs.View.{view};
 ghost use Rattle.slo_manifest.specs.Manifest.{json_of};
 ghost use Rattle.upload_texts.specs.Places.{version_in};
 ghost use Rattle.upload_texts.specs.declared.record.Record.TheVariants.{Done, Open};
-ghost use Rattle.upload_texts.specs.Records.{done_record_in_json, done_put, done_record_json, has_record_text, moment_in, open_in, open_record_object, open_put, open_record_json, read_record, record_in, record_text, record_value, undated_record_json, dated_record_json, is_known_version, unless_known_record_version, ReadsRecord};
+ghost use Rattle.upload_texts.specs.Records.{done_record_in_json, done_record_json, has_record_text, moment_in, open_in, open_record_object, open_record_json, read_record, record_in, record_text, record_value, undated_record_json, dated_record_json, is_known_version, unless_known_record_version, MatchesRecord, ReadsRecord};
 
 use crate::forms::{content_fits_record_text, is_dated, is_moment, list_fits_record_text};
-use crate::members::{put_record_field_number, put_record_field_text, put_record_field_value};
+use crate::members::{Field, Member, record_object};
 use crate::places::{
     record_field_list, record_field_number, record_field_text, record_field_version,
 };
@@ -18,7 +18,7 @@ use crate::values::{metadata_pairs_json, record_parts_json};
 use gate_base::{Bytes, Copying, List, Memory};
 use s3_machine::Listed;
 use s3_names::{Meta, is_key};
-use serde_json::{Map, Value};
+use serde_json::Value;
 use std::alloc::Global;
 use swift_marks::is_etag;
 use text_forms::text_of;
@@ -97,20 +97,29 @@ impl Record {
     }
 
     /// The same where the version is known.
+    #[tactic(auto, using(crate::proofs::Answering::record_unmatched))]
     fn checked(alloc: Global, bytes: &[u8], value: &Value) -> Result<Record, RecordFault>
         requires parsed { json_of bytes.now ≡ Some (view value.now) }
         requires known { unless_known_record_version is_known_version (version_in (view value.now)) ≡ None }
         ensures { ReadsRecord bytes.now result }
     {
         let found = record_in(alloc, value)?;
-        if !found.has_text() {
+        found.check_text(alloc, bytes)?;
+        Ok(found)
+    }
+
+    /// Whether these bytes are the text of the record: `NotARecord` where they aren't, or it has none.
+    fn check_text(&self, alloc: Global, bytes: &[u8]) -> Result<(), RecordFault>
+        ensures { MatchesRecord self.now bytes.now result }
+    {
+        if !self.has_text() {
             return Err(RecordFault::NotARecord);
         }
-        let text = found.write(alloc)?;
+        let text = self.write(alloc)?;
         if !is_same_record_text(text.as_slice(), bytes) {
             return Err(RecordFault::NotARecord);
         }
-        Ok(found)
+        Ok(())
     }
 
     /// The one text of the record, which is read as it. It asks for a record that has one (`has_text`), and fails only where
@@ -197,38 +206,45 @@ fn open_record_json(
     open_record_object(alloc, key, content_type, &meta, started)
 }
 
-fn open_record_object(
+fn open_record_object<'a>(
     alloc: Global,
-    key: &str,
-    content_type: &str,
-    meta: &Value,
+    key: &'a str,
+    content_type: &'a str,
+    meta: &'a Value,
     started: u64,
 ) -> Result<Value, Memory>
     ensures { IfOk result
         (λ value. view value ≡ open_record_object started key.now (view meta.now) content_type.now) }
 {
-    let mut map = Map::new(alloc);
-    put_record_field_number(&mut map, alloc, "at", started)?;
-    put_open_record_fields(&mut map, alloc, key, meta, content_type)?;
-    Ok(Value::Object(map))
-}
-
-/// What stands behind the moment of an open upload.
-fn put_open_record_fields(
-    map: &mut Map<String, Value>,
-    alloc: Global,
-    key: &str,
-    meta: &Value,
-    content_type: &str,
-) -> Result<(), Memory>
-    ensures { OnOk result (members_view map.new.entries ≡ open_put key.now (view meta.now)
-        content_type.now (members_view map.old.entries)) }
-{
-    put_record_field_text(map, alloc, "key", key)?;
-    put_record_field_value(map, alloc, "meta", meta)?;
-    put_record_field_text(map, alloc, "state", "open")?;
-    put_record_field_text(map, alloc, "type", content_type)?;
-    put_record_field_number(map, alloc, "v", 1)
+    record_object(
+        alloc,
+        &[
+            Member {
+                name: "at",
+                field: Field::Number(started),
+            },
+            Member {
+                name: "key",
+                field: Field::Text(key),
+            },
+            Member {
+                name: "meta",
+                field: Field::Json(meta),
+            },
+            Member {
+                name: "state",
+                field: Field::Text("open"),
+            },
+            Member {
+                name: "type",
+                field: Field::Text(content_type),
+            },
+            Member {
+                name: "v",
+                field: Field::Number(1),
+            },
+        ],
+    )
 }
 
 #[tactic(auto, using(crate::proofs::Limits::done_key, crate::proofs::Limits::done_list, crate::proofs::Limits::done_etag))]
@@ -253,57 +269,91 @@ fn done_record_json(
     }
 }
 
-fn undated_record_json(
+fn undated_record_json<'a>(
     alloc: Global,
-    key: &str,
-    list: &Value,
-    etag: &str,
+    key: &'a str,
+    list: &'a Value,
+    etag: &'a str,
     started: u64,
 ) -> Result<Value, Memory>
     ensures { IfOk result
         (λ value. view value ≡ undated_record_json started etag.now key.now (view list.now)) }
 {
-    let mut map = Map::new(alloc);
-    put_record_field_number(&mut map, alloc, "at", started)?;
-    put_done_record_fields(&mut map, alloc, etag, key, list, 1)?;
-    Ok(Value::Object(map))
+    record_object(
+        alloc,
+        &[
+            Member {
+                name: "at",
+                field: Field::Number(started),
+            },
+            Member {
+                name: "etag",
+                field: Field::Text(etag),
+            },
+            Member {
+                name: "key",
+                field: Field::Text(key),
+            },
+            Member {
+                name: "list",
+                field: Field::Json(list),
+            },
+            Member {
+                name: "state",
+                field: Field::Text("done"),
+            },
+            Member {
+                name: "v",
+                field: Field::Number(1),
+            },
+        ],
+    )
 }
 
-fn dated_record_json(
+fn dated_record_json<'a>(
     alloc: Global,
-    key: &str,
-    list: &Value,
-    etag: &str,
+    key: &'a str,
+    list: &'a Value,
+    etag: &'a str,
     started: u64,
     moment: u64,
 ) -> Result<Value, Memory>
     ensures { IfOk result
         (λ value. view value ≡ dated_record_json started moment etag.now key.now (view list.now)) }
 {
-    let mut map = Map::new(alloc);
-    put_record_field_number(&mut map, alloc, "at", started)?;
-    put_record_field_number(&mut map, alloc, "done", moment)?;
-    put_done_record_fields(&mut map, alloc, etag, key, list, 2)?;
-    Ok(Value::Object(map))
-}
-
-/// What stands behind the moments of a completion, in each version.
-fn put_done_record_fields(
-    map: &mut Map<String, Value>,
-    alloc: Global,
-    etag: &str,
-    key: &str,
-    list: &Value,
-    version: u64,
-) -> Result<(), Memory>
-    ensures { OnOk result (members_view map.new.entries ≡ done_put etag.now key.now
-        (view list.now) version (members_view map.old.entries)) }
-{
-    put_record_field_text(map, alloc, "etag", etag)?;
-    put_record_field_text(map, alloc, "key", key)?;
-    put_record_field_value(map, alloc, "list", list)?;
-    put_record_field_text(map, alloc, "state", "done")?;
-    put_record_field_number(map, alloc, "v", version)
+    record_object(
+        alloc,
+        &[
+            Member {
+                name: "at",
+                field: Field::Number(started),
+            },
+            Member {
+                name: "done",
+                field: Field::Number(moment),
+            },
+            Member {
+                name: "etag",
+                field: Field::Text(etag),
+            },
+            Member {
+                name: "key",
+                field: Field::Text(key),
+            },
+            Member {
+                name: "list",
+                field: Field::Json(list),
+            },
+            Member {
+                name: "state",
+                field: Field::Text("done"),
+            },
+            Member {
+                name: "v",
+                field: Field::Number(2),
+            },
+        ],
+    )
 }
 
 /// The record that stands in the places of a value, where that has a text.

@@ -1,15 +1,15 @@
 //! A completion that is sealed.
-ghost use Rattle.std.specs.Prelude.{◌≡◌, ◌^◌, nat_lt, IfOk, None, OnOk, Some, true};
+ghost use Rattle.std.specs.Prelude.{◌≡◌, ◌^◌, nat_lt, IfOk, None, Some, true};
 ghost use Rattle.serde_json.specs.Find.{get};
-ghost use Rattle.serde_json.specs.View.{members_view, view};
+ghost use Rattle.serde_json.specs.View.{view};
 ghost use Rattle.slo_manifest.specs.Manifest.{json_of};
 ghost use Rattle.upload_texts.specs.Places.{text_in, version_in};
 ghost use Rattle.upload_texts.specs.Records.{unless_known_record_version};
 ghost use Rattle.s3_machine.specs.Uploads.{id_value};
-ghost use Rattle.upload_texts.specs.Sealed.{has_sealed_text, read_sealed, sealed_in, sealed_text, sealed_value, sealed_object, names_put, rest_put, is_first_version, ReadsSealed};
+ghost use Rattle.upload_texts.specs.Sealed.{has_sealed_text, read_sealed, sealed_in, sealed_text, sealed_value, sealed_object, is_first_version, MatchesSealed, ReadsSealed};
 
 use crate::forms::{content_fits_record_text, is_moment, is_sealed_list};
-use crate::members::{put_record_field_number, put_record_field_text, put_record_field_value};
+use crate::members::{Field, Member, record_object};
 use crate::places::{
     record_field_list, record_field_number, record_field_text, record_field_version,
 };
@@ -21,7 +21,7 @@ use crate::record::RecordFault;
 use crate::values::{metadata_pairs_json, sealed_parts_json};
 use gate_base::{Bytes, Copying, List, Memory};
 use s3_names::{Meta, id_digits, is_bucket, is_key, read_id_digits};
-use serde_json::{Map, Value};
+use serde_json::Value;
 use std::alloc::Global;
 use swift_marks::is_etag;
 use text_forms::text_of;
@@ -84,20 +84,29 @@ impl Sealed {
     }
 
     /// The same where the version is the first.
+    #[tactic(auto, using(crate::proofs::Answering::sealed_unmatched))]
     fn checked(alloc: Global, bytes: &[u8], value: &Value) -> Result<Sealed, RecordFault>
         requires parsed { json_of bytes.now ≡ Some (view value.now) }
         requires known { unless_known_record_version is_first_version (version_in (view value.now)) ≡ None }
         ensures { ReadsSealed bytes.now result }
     {
         let found = sealed_in(alloc, value)?;
-        if !found.has_text() {
+        found.check_text(alloc, bytes)?;
+        Ok(found)
+    }
+
+    /// Whether these bytes are the text of the sealed completion: `NotARecord` where they aren't, or it has none.
+    fn check_text(&self, alloc: Global, bytes: &[u8]) -> Result<(), RecordFault>
+        ensures { MatchesSealed self.now bytes.now result }
+    {
+        if !self.has_text() {
             return Err(RecordFault::NotARecord);
         }
-        let text = found.write(alloc)?;
+        let text = self.write(alloc)?;
         if !is_same_record_text(text.as_slice(), bytes) {
             return Err(RecordFault::NotARecord);
         }
-        Ok(found)
+        Ok(())
     }
 
     /// The one text of the sealed completion, which is read as it. It asks for one that has a text (`has_text`), and fails only
@@ -156,62 +165,66 @@ impl Sealed {
     }
 }
 
-fn sealed_json_object(
+fn sealed_json_object<'a>(
     alloc: Global,
     moment: u64,
-    bucket: &str,
-    etag: &str,
-    id: &str,
-    key: &str,
-    list: &Value,
-    meta: &Value,
+    bucket: &'a str,
+    etag: &'a str,
+    id: &'a str,
+    key: &'a str,
+    list: &'a Value,
+    meta: &'a Value,
     started: u64,
-    content_type: &str,
+    content_type: &'a str,
 ) -> Result<Value, Memory>
     ensures { IfOk result (λ value. view value ≡ sealed_object moment bucket.now etag.now id.now
         key.now (view list.now) (view meta.now) started content_type.now) }
 {
-    let mut map = Map::new(alloc);
-    put_sealed_name_fields(&mut map, alloc, moment, bucket, etag, id, key)?;
-    put_other_sealed_fields(&mut map, alloc, list, meta, started, content_type)?;
-    Ok(Value::Object(map))
-}
-
-fn put_sealed_name_fields(
-    map: &mut Map<String, Value>,
-    alloc: Global,
-    moment: u64,
-    bucket: &str,
-    etag: &str,
-    id: &str,
-    key: &str,
-) -> Result<(), Memory>
-    ensures { OnOk result (members_view map.new.entries ≡ names_put moment bucket.now etag.now
-        id.now key.now (members_view map.old.entries)) }
-{
-    put_record_field_number(map, alloc, "at", moment)?;
-    put_record_field_text(map, alloc, "bucket", bucket)?;
-    put_record_field_text(map, alloc, "etag", etag)?;
-    put_record_field_text(map, alloc, "id", id)?;
-    put_record_field_text(map, alloc, "key", key)
-}
-
-fn put_other_sealed_fields(
-    map: &mut Map<String, Value>,
-    alloc: Global,
-    list: &Value,
-    meta: &Value,
-    started: u64,
-    content_type: &str,
-) -> Result<(), Memory>
-    ensures { OnOk result (members_view map.new.entries ≡ rest_put (view list.now) (view meta.now)
-        started content_type.now (members_view map.old.entries)) }
-{
-    put_record_field_value(map, alloc, "list", list)?;
-    put_record_field_value(map, alloc, "meta", meta)?;
-    put_record_field_number(map, alloc, "started", started)?;
-    put_record_field_text(map, alloc, "type", content_type)?;
-    put_record_field_number(map, alloc, "v", 1)
+    record_object(
+        alloc,
+        &[
+            Member {
+                name: "at",
+                field: Field::Number(moment),
+            },
+            Member {
+                name: "bucket",
+                field: Field::Text(bucket),
+            },
+            Member {
+                name: "etag",
+                field: Field::Text(etag),
+            },
+            Member {
+                name: "id",
+                field: Field::Text(id),
+            },
+            Member {
+                name: "key",
+                field: Field::Text(key),
+            },
+            Member {
+                name: "list",
+                field: Field::Json(list),
+            },
+            Member {
+                name: "meta",
+                field: Field::Json(meta),
+            },
+            Member {
+                name: "started",
+                field: Field::Number(started),
+            },
+            Member {
+                name: "type",
+                field: Field::Text(content_type),
+            },
+            Member {
+                name: "v",
+                field: Field::Number(1),
+            },
+        ],
+    )
 }
 
 /// Every id has its digits: it has 128 bits.
