@@ -25,7 +25,7 @@ pub use moment::{is_of_day, is_time, signing_time_seconds};
 pub use pieces::{Seal, verify_head};
 pub use refusal::Refusal;
 pub use request::{canonical, canonical_query, canonical_with};
-pub use signature::{Signed, date_of, is_date_time, sign};
+pub use signature::{Signed, are_same_signatures, date_of, is_date_time, sign};
 pub use texts::concatenated;
 pub use verdict::{
     has_signed_pieces, has_wrong_scope, hash_of, is_among, signature_differs, time_of, verify,

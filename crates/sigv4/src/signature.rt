@@ -115,7 +115,7 @@ pub(crate) fn signing_key(
 }
 
 /// Whether two texts are the same. Where they are of one length, every byte of both is looked at, whatever the others are.
-pub(crate) fn are_same_signatures(left: &[u8], right: &[u8]) -> bool
+pub fn are_same_signatures(left: &[u8], right: &[u8]) -> bool
     ensures { result ≡ bytes_eq left.now right.now }
 {
     let mut same = left.len() == right.len();
