@@ -62,7 +62,7 @@ FAULTS = [
     ("many_keys copy_under_conditions: that it is onto itself comes first", "many_keys/src/copies.rt", 1, "    if !may_be_copied(conditions, &head) {\n", "    if is_onto_itself(&bucket, &key, &from_bucket, &from_key, &replaced) {\n        return Ok(Reply::Refused(Code::InvalidRequest));\n    }\n    if !may_be_copied(conditions, &head) {\n", ["copies-extended.txt"]),
     ("s3_requests is_extended_pair: a delimiter of any text", "s3_requests/src/query.rt", 1, " && pair.value.len() == 0)", ")", ["gateway.txt"]),
     ("s3_pages upload: a key as it is", "s3_pages/src/uploads.rt", 1, "self.shown(b\"Key\", url, item.key.as_slice())?;", "self.shown(b\"Key\", false, item.key.as_slice())?;", ["s3_bodies.txt"]),
-    ("chunked has_chunk_signature: the signature of a chunk isn't looked at", "chunked/src/sign.rt", 1, "    Ok(are_same_chunk_signatures(chunk.signature, &due))\n", "    Ok(due.len() == 64)\n", ["chunked.txt"]),
+    ("chunked has_chunk_signature: the signature of a chunk isn't looked at", "chunked/src/sign.rt", 1, "    Ok(are_same_signatures(chunk.signature, &due))\n", "    Ok(due.len() == 64)\n", ["chunked.txt"]),
     ("chunked chunked_trailers: the previous signature is always the head's", "chunked/src/trailers.rt", 1, "        previous = chunk.signature;\n", "", ["chunked.txt"]),
     ("chunked decode: the decoded length isn't compared", "chunked/src/body.rt", 1, "    if body.len() as u64 != count {", "    if count == u64::MAX {", ["chunked.txt"]),
     ("extended claims_of: the checksums of trailers are dropped", "extended/src/claims.rt", 1, "    append_checksums(&mut checksums, trailers)?;\n", "", ["chunked.txt"]),

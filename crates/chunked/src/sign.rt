@@ -1,5 +1,5 @@
 //! The signatures of chunks and of a trailer.
-ghost use Rattle.std.specs.Prelude.{◌≡◌, [], ◌∷◌, ◌++◌, IfOk, OnOk, bytes_eq, flat_map};
+ghost use Rattle.std.specs.Prelude.{◌≡◌, IfOk, flat_map};
 ghost use Rattle.hex.specs.Hex.{encode_lower};
 ghost use Rattle.chunked.specs.Signatures.{hash_text, chunk_to_sign, chunk_signature, trailer_line, trailer_to_sign, trailer_signature, has_signature_due};
 ghost use Rattle.chunked.specs.Views.{chunk_of};
@@ -8,7 +8,7 @@ use crate::Seal;
 use crate::chunk::ChunkParts;
 use gate_base::{Bytes, Memory, Pair};
 use sha2::{Digest, Sha256};
-use sigv4::hmac;
+use sigv4::{are_same_signatures, concatenated, hmac};
 use std::alloc::Global;
 
 /// Whether a chunk has the signature that is due behind the one before it.
@@ -26,7 +26,7 @@ pub(crate) fn has_chunk_signature(
         return Ok(true);
     }
     let due = chunk_signature(alloc, seal, previous, chunk.bytes)?;
-    Ok(are_same_chunk_signatures(chunk.signature, &due))
+    Ok(are_same_signatures(chunk.signature, &due))
 }
 
 #[tactic(auto, unfolding(crate::specs::Signatures::chunk_signature))]
@@ -45,28 +45,24 @@ fn chunk_signature(
 fn chunk_to_sign(alloc: Global, seal: &Seal, previous: &[u8], bytes: &[u8]) -> Result<Bytes, Memory>
     ensures { IfOk result (λ text. text ≡ chunk_to_sign seal.now previous.now bytes.now) }
 {
-    let mut text = Bytes::from_slice(alloc, b"AWS4-HMAC-SHA256-PAYLOAD\n")?;
-    append_chunk_lines(&mut text, seal, previous)?;
-    text.append(&hash_text(b""))?;
-    text.push(b'\n')?;
-    text.append(&hash_text(bytes))?;
-    Ok(text)
-}
-
-/// Adds the lines that both texts to sign have.
-fn append_chunk_lines(text: &mut Bytes, seal: &Seal, previous: &[u8]) -> Result<(), Memory>
-    ensures { OnOk result (text.new ≡ text.old ++ seal.now.date_time ++ 10 ∷ [] ++ seal.now.scope ++ 10 ∷ [] ++ previous.now ++ 10 ∷ []) }
-{
-    append_chunk_line(text, seal.date_time.as_slice())?;
-    append_chunk_line(text, seal.scope.as_slice())?;
-    append_chunk_line(text, previous)
-}
-
-fn append_chunk_line(text: &mut Bytes, line: &[u8]) -> Result<(), Memory>
-    ensures { OnOk result (text.new ≡ text.old ++ line.now ++ 10 ∷ []) }
-{
-    text.append(line)?;
-    text.push(b'\n')
+    let (time, scope) = (seal.date_time.as_slice(), seal.scope.as_slice());
+    let none = hash_text(b"");
+    let hash = hash_text(bytes);
+    concatenated(
+        alloc,
+        &[
+            b"AWS4-HMAC-SHA256-PAYLOAD\n",
+            time,
+            b"\n",
+            scope,
+            b"\n",
+            previous,
+            b"\n",
+            &none,
+            b"\n",
+            &hash,
+        ],
+    )
 }
 
 fn hash_text(bytes: &[u8]) -> [u8; 64]
@@ -108,10 +104,21 @@ fn trailer_to_sign(
     ensures { IfOk result (λ text. text ≡ trailer_to_sign seal.now previous.now trailers.now) }
 {
     let lines = trailer_lines(alloc, trailers)?;
-    let mut text = Bytes::from_slice(alloc, b"AWS4-HMAC-SHA256-TRAILER\n")?;
-    append_chunk_lines(&mut text, seal, previous)?;
-    text.append(&hash_text(lines.as_slice()))?;
-    Ok(text)
+    let (time, scope) = (seal.date_time.as_slice(), seal.scope.as_slice());
+    let hash = hash_text(lines.as_slice());
+    concatenated(
+        alloc,
+        &[
+            b"AWS4-HMAC-SHA256-TRAILER\n",
+            time,
+            b"\n",
+            scope,
+            b"\n",
+            previous,
+            b"\n",
+            &hash,
+        ],
+    )
 }
 
 fn trailer_lines(alloc: Global, trailers: &[Pair]) -> Result<Bytes, Memory>
@@ -119,27 +126,14 @@ fn trailer_lines(alloc: Global, trailers: &[Pair]) -> Result<Bytes, Memory>
 {
     let mut text = Bytes::new(alloc);
     for trailer in trailers {
-        append_trailer_line(&mut text, trailer)?;
+        text.append(trailer_line(alloc, trailer)?.as_slice())?;
     }
     Ok(text)
 }
 
-fn append_trailer_line(text: &mut Bytes, trailer: &Pair) -> Result<(), Memory>
-    ensures { OnOk result (text.new ≡ text.old ++ trailer_line trailer.now) }
+fn trailer_line(alloc: Global, trailer: &Pair) -> Result<Bytes, Memory>
+    ensures { IfOk result (λ line. line ≡ trailer_line trailer.now) }
 {
-    text.append(trailer.name.as_slice())?;
-    text.push(b':')?;
-    text.append(trailer.value.as_slice())?;
-    text.push(b'\n')
-}
-
-/// Whether two texts are the same. Where they are of one length, every byte of both is looked at, whatever the others are.
-pub(crate) fn are_same_chunk_signatures(left: &[u8], right: &[u8]) -> bool
-    ensures { result ≡ bytes_eq left.now right.now }
-{
-    let mut same = left.len() == right.len();
-    for (one, other) in left.iter().zip(right) {
-        same = (one == other) & same;
-    }
-    same
+    let (name, value) = (trailer.name.as_slice(), trailer.value.as_slice());
+    concatenated(alloc, &[name, b":", value, b"\n"])
 }

@@ -6,9 +6,10 @@ ghost use Rattle.chunked.specs.Signatures.{is_signature_line, has_signature_line
 use crate::chunk::read_chunk;
 use crate::form::{is_signed, most_chunked_lines};
 use crate::line::read_chunked_lines;
-use crate::sign::{are_same_chunk_signatures, has_chunk_signature, trailer_signature};
+use crate::sign::{has_chunk_signature, trailer_signature};
 use crate::{ChunkedFault, ChunkedForm, Seal};
 use gate_base::{List, Memory, Pair};
+use sigv4::are_same_signatures;
 use std::alloc::Global;
 
 /// The trailers of a body in chunks. Each byte of data is hashed once, where the form is signed; nothing is moved.
@@ -131,7 +132,7 @@ fn ends_with_signature(
     match lines {
         [trailers @ .., last] => {
             let due = trailer_signature(alloc, seal, previous, trailers)?;
-            Ok(are_same_chunk_signatures(last.value.as_slice(), &due))
+            Ok(are_same_signatures(last.value.as_slice(), &due))
         }
         [] => Ok(false),
     }

@@ -1,5 +1,5 @@
 -- What a body says is never a lack of memory.
-use Rattle.std.proofs.Common.{◌≡◌, ◌≢◌, ℕ, zero, suc, ◌⊎◌, inl, inr, Bool, true, false, cond, List, [], ◌∷◌, length, nat_eq, Result, Ok, Err, ap}
+use Rattle.std.proofs.Common.{◌≡◌, ◌≢◌, ℕ, zero, suc, inl, inr, Bool, true, false, cond, List, [], ◌∷◌, length, nat_eq, Result, Ok, Err, ap}
 use Rattle.gate_base.specs.declared.page.Pair.{Pair}
 use Rattle.chunked.specs.declared.body.Decoded.{Decoded}
 use Rattle.chunked.specs.declared.fault.ChunkedFault.{ChunkedFault}
@@ -10,7 +10,7 @@ use Rattle.chunked.specs.Forms.{is_signed, most_lines}
 use Rattle.chunked.specs.Sent.{Chunk}
 use Rattle.chunked.specs.Signatures.{has_signature_due, has_signature_line, has_trailer_signature_due, trailers_in}
 use Rattle.chunked.specs.Reading.{◌>>=◌, Tail, chunk_at, lines_at, behind_chunk, tail_at, sealed_by, ended_by, finished, trailers_of, gathered_at, decoded_of}
-use Rattle.chunked.proofs.Steady.{IsPlain, Steady}
+use Rattle.chunked.proofs.Steady.{IsPlain}
 use Rattle.chunked.proofs.Pieces.{chunk_steady}
 use Rattle.chunked.proofs.Rows.{lines_steady}
 
