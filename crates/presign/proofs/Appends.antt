@@ -1,5 +1,5 @@
 -- Lists to which items were added one after the other.
-use Rattle.std.proofs.Common.{◌≡◌, List, [], ◌∷◌, ◌++◌, append_assoc, ap, ◌∙◌}
+use Rattle.std.proofs.Common.{◌≡◌, ℕ, List, [], ◌∷◌, ◌++◌, append_assoc, append-nil, ap, ◌∙◌}
 use Rattle.gate_base.specs.declared.page.Pair.{Pair}
 
 pub two_more : (a b : Pair) (old one two : List Pair) → one ≡ old ++ a ∷ [] → two ≡ one ++ b ∷ [] → two ≡ old ++ a ∷ b ∷ []
@@ -11,3 +11,7 @@ three_more a b c old one two three first second third =
 
 pub both_more : (old one two first second : List Pair) → one ≡ old ++ first → two ≡ one ++ second → two ≡ old ++ (first ++ second)
 both_more old one two first second a b = b ∙ ap (λ xs. xs ++ second) a ∙ append_assoc old first second
+
+-- a path, a query and a signature, one behind the other
+pub url_joined : (path query label digits : List ℕ) → path ++ 63 ∷ (query ++ (label ++ (digits ++ []))) ≡ ((path ++ 63 ∷ []) ++ query) ++ label ++ digits
+url_joined path query label digits = simp (append_assoc, append-nil)

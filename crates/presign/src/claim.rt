@@ -2,15 +2,15 @@
 ghost use Rattle.std.specs.Prelude.{◌≡◌, true, IfOk, IfSome};
 ghost use Rattle.std.specs.Bool.{OnTrue};
 ghost use Rattle.sigv4.specs.Moment.{is_time};
-ghost use Rattle.presign.specs.Claim.{parts_from, parts_of, presigned_time_in, is_labelled, is_dated, formed_presigned_parts, claim_of};
+ghost use Rattle.presign.specs.Claim.{parts_of, presigned_time_in, is_labelled, is_dated, formed_presigned_parts, claim_of};
 
 use crate::number::expiry_span_of;
 use crate::parameters::{
     ALGORITHM, CREDENTIAL, DATE, EXPIRES, SIGNATURE, SIGNED_HEADERS, has_each_once, parameter,
 };
-use gate_base::{Bytes, Memory, Pair, cut};
+use gate_base::{Bytes, Memory, Pair};
 use http_wire::has_header;
-use sigv4::{Authorization, behind_service, is_formed, is_of_day, is_time, signed_names_in};
+use sigv4::{Authorization, authorization_from, behind_service, is_formed, is_of_day, is_time};
 use std::alloc::Global;
 
 /// What the query of a presigned request says: who signed it for which day, region and service, which headers, and the
@@ -88,37 +88,14 @@ fn presigned_time_in(query: &[Pair]) -> &[u8]
     parameter(query, DATE)
 }
 
+#[tactic(auto, unfolding(crate::specs::Claim::parts_from))]
 fn parts_of(alloc: Global, query: &[Pair]) -> Result<Authorization, Memory>
     ensures { IfOk result (λ parts. parts ≡ parts_of query.now) }
 {
-    let names = parameter(query, SIGNED_HEADERS);
-    presigned_parts_from(
+    authorization_from(
         alloc,
         parameter(query, CREDENTIAL),
-        names,
+        parameter(query, SIGNED_HEADERS),
         parameter(query, SIGNATURE),
     )
-}
-
-#[tactic(auto, unfolding(crate::specs::Claim::parts_from))]
-fn presigned_parts_from(
-    alloc: Global,
-    credential: &[u8],
-    names: &[u8],
-    signature: &[u8],
-) -> Result<Authorization, Memory>
-    ensures { IfOk result (λ parts. parts ≡ parts_from credential.now names.now signature.now) }
-{
-    let (id, behind_id) = cut(credential, b'/');
-    let (date, behind_date) = cut(behind_id, b'/');
-    let (region, behind_region) = cut(behind_date, b'/');
-    let (service, _) = cut(behind_region, b'/');
-    Ok(Authorization {
-        id: Bytes::from_slice(alloc, id)?,
-        date: Bytes::from_slice(alloc, date)?,
-        region: Bytes::from_slice(alloc, region)?,
-        service: Bytes::from_slice(alloc, service)?,
-        names: signed_names_in(alloc, names)?,
-        signature: Bytes::from_slice(alloc, signature)?,
-    })
 }

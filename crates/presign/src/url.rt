@@ -1,12 +1,12 @@
 //! Presigned URLs.
 ghost use Rattle.std.specs.Prelude.{◌≡◌, ◌≤◌, ◌<◌, ◌++◌, ◌∷◌, [], true, false, IfOk, OnOk, codes};
-ghost use Rattle.hex.specs.Hex.{encode_lower};
 ghost use Rattle.gate_base.specs.declared.outside.TheConstants.{MOMENT_LIMIT as moment_limit};
 ghost use Rattle.http_wire.specs.Headers.{has_single_header as has_one_header};
 ghost use Rattle.sigv4.specs.Keys.{is_key};
 ghost use Rattle.sigv4.specs.Moment.{is_time};
-ghost use Rattle.sigv4.specs.Sign.{date_of};
-ghost use Rattle.presign.specs.Url.{has_signature_name, is_region, credential_for, scope_parameters, span_parameters, with_credential, signing_query, url_of, IsPresigned};
+ghost use Rattle.sigv4.specs.Sign.{date_of, signed_of};
+ghost use Rattle.presign.specs.Url.{has_signature_name, is_region, credential_for, scope_parameters, span_parameters, with_credential, signing_query, host_alone, url_of, IsPresigned};
+ghost use Rattle.presign.specs.Verdict.{signed_text};
 
 use crate::parameters::{
     ALGORITHM, CREDENTIAL, DATE, EXPIRES, SIGNATURE, SIGNED_HEADERS, has_presigned_parameter,
@@ -16,7 +16,7 @@ use crate::verdict::signed_text;
 use gate_base::{Bytes, Copying, List, Memory, Pair};
 use http_wire::Message;
 use s3_names::{Target, encode_path};
-use sigv4::{canonical_query, date_of, sign};
+use sigv4::{canonical_query, concatenated, date_of, sign};
 use std::alloc::Global;
 use text_forms::decimal_text;
 
@@ -86,22 +86,35 @@ fn presigned_url_of(
     ensures { IfOk result
         (λ url. url ≡ url_of secret.now region.now message.now path.now time.now query.now) }
 {
-    let names = [Bytes::from_slice(alloc, b"host")?];
-    let text = signed_text(alloc, message, path, query, &names)?;
-    let signed = sign(alloc, secret, time, region, text.as_slice())?;
-    let mut url = encode_path(alloc, path)?;
-    url.push(b'?')?;
-    url.append(canonical_query(alloc, query)?.as_slice())?;
-    append_signature(alloc, &mut url, signed.signature)?;
-    Ok(url)
+    let signature = presigned_signature(alloc, secret, region, message, path, time, query)?;
+    let digits = hex::encode(alloc, signature)?;
+    let path = encode_path(alloc, path)?;
+    let query = canonical_query(alloc, query)?;
+    let (path, query) = (path.as_slice(), query.as_slice());
+    concatenated(
+        alloc,
+        &[path, b"?", query, b"&X-Amz-Signature=", digits.as_bytes()],
+    )
 }
 
-fn append_signature(alloc: Global, url: &mut Bytes, signature: [u8; 32]) -> Result<(), Memory>
-    ensures { OnOk result
-        (url.new ≡ url.old ++ codes "&X-Amz-Signature=" ++ encode_lower signature) }
+/// The signature of the URL, for which `host` is signed alone.
+#[tactic(auto, using(crate::proofs::Times::time_has_form))]
+fn presigned_signature(
+    alloc: Global,
+    secret: &[u8],
+    region: &[u8],
+    message: &Message,
+    path: &[u8],
+    time: &[u8],
+    query: &[Pair],
+) -> Result<[u8; 32], Memory>
+    requires { is_time time.now ≡ true }
+    ensures { IfOk result (λ signature. signature ≡ (signed_of secret.now time.now region.now
+        (signed_text message.now path.now query.now host_alone)).signature) }
 {
-    url.append(b"&X-Amz-Signature=")?;
-    url.append(hex::encode(alloc, signature)?.as_bytes())
+    let names = [Bytes::from_slice(alloc, b"host")?];
+    let text = signed_text(alloc, message, path, query, &names)?;
+    Ok(sign(alloc, secret, time, region, text.as_slice())?.signature)
 }
 
 /// The query as it is signed.
@@ -195,18 +208,6 @@ fn credential_for(alloc: Global, id: &[u8], time: &[u8], region: &[u8]) -> Resul
     ensures { IfOk result
         (λ credential. credential ≡ credential_for id.now (date_of time.now) region.now) }
 {
-    let mut credential = Bytes::from_slice(alloc, id)?;
-    append_presigned_scope(&mut credential, date_of(time), region)?;
-    Ok(credential)
-}
-
-fn append_presigned_scope(text: &mut Bytes, date: &[u8], region: &[u8]) -> Result<(), Memory>
-    ensures { OnOk result (text.new ≡ text.old ++ 47 ∷ [] ++ date.now ++ 47 ∷ [] ++ region.now
-        ++ codes "/s3/aws4_request") }
-{
-    text.push(b'/')?;
-    text.append(date)?;
-    text.push(b'/')?;
-    text.append(region)?;
-    text.append(b"/s3/aws4_request")
+    let date = date_of(time);
+    concatenated(alloc, &[id, b"/", date, b"/", region, b"/s3/aws4_request"])
 }
