@@ -26,10 +26,5 @@ pub fn split_segment_path(path: &[u8]) -> (&[u8], &[u8])
 pub fn path_of(alloc: Global, container: &str, name: &str) -> Result<String, AllocError>
     ensures { IfOk result (λ path. string_bytes path ≡ path_of container.now name.now) }
 {
-    let mut path = String::new(alloc);
-    path.push_str("/")?;
-    path.push_str(container)?;
-    path.push_str("/")?;
-    path.push_str(name)?;
-    Ok(path)
+    format!(in alloc; "/{container}/{name}")
 }
