@@ -2,6 +2,7 @@ pub mod AnswerLemmas
 pub mod CoverLemmas
 pub mod CutLemmas
 pub mod EntryLemmas
+pub mod Fields
 pub mod ListLemmas
 pub mod ReadLemmas
 pub mod RoundTrip

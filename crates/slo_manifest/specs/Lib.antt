@@ -3,6 +3,7 @@ pub mod Entry
 pub mod Etag
 pub mod Laws
 pub mod Manifest
+pub mod Members
 pub mod Path
 pub mod Segments
 pub mod Text

@@ -1,19 +1,19 @@
-ghost use Rattle.std.specs.Prelude.{◌≡◌, option_map, IfOk, OnOk, true};
+ghost use Rattle.std.specs.Prelude.{◌≡◌, option_map, IfOk, true};
 ghost use Rattle.std.specs.Str.{IsUtf8};
 ghost use Rattle.serde_json.specs.Find.{get, as_str, as_u64};
-ghost use Rattle.serde_json.specs.Data.{string, put as with_member};
-ghost use Rattle.serde_json.specs.View.{members_view, view};
+ghost use Rattle.serde_json.specs.View.{view};
 ghost use Rattle.slo_manifest.specs.Segments.{is_segment};
 ghost use Rattle.slo_manifest.specs.Entry.{etag_field, manifest_path_field, manifest_size_field, text_at, number_at, entry_of, segment_of, EntryGives};
 ghost use Rattle.slo_manifest.specs.Text.{entry_value, manifest_put_entry, manifest_got_entry};
 
 use crate::Segment;
 use crate::manifest::Form;
+use crate::members::{Field, Member, json_object};
 use crate::paths::{path_of, split_segment_path};
 use crate::segments::are_manifest_entry_fields;
 use gate_base::{Bytes, Memory};
-use serde_json::{Map, ToValue, Value, put};
-use std::alloc::{AllocError, Global};
+use serde_json::Value;
+use std::alloc::Global;
 use text_forms::text_of;
 
 /// Why an entry gives no segment.
@@ -123,7 +123,7 @@ fn read_segment_fields(
 
 /// The entry of a segment, as JSON.
 #[tactic(auto, using(crate::proofs::SegmentLemmas::container_is_utf8, crate::proofs::SegmentLemmas::name_is_utf8, crate::proofs::SegmentLemmas::etag_is_utf8))]
-pub fn entry_value(alloc: Global, segment: &Segment, form: Form) -> Result<Value, AllocError>
+pub fn entry_value(alloc: Global, segment: &Segment, form: Form) -> Result<Value, Memory>
     requires { is_segment segment.now ≡ true }
     ensures { IfOk result (λ value. view value ≡ entry_value form segment.now) }
 {
@@ -137,46 +137,64 @@ pub fn entry_value(alloc: Global, segment: &Segment, form: Form) -> Result<Value
     }
 }
 
-fn manifest_put_entry(alloc: Global, etag: &str, path: &str, size: u64) -> Result<Value, AllocError>
+fn manifest_put_entry<'a>(
+    alloc: Global,
+    etag: &'a str,
+    path: &'a str,
+    size: u64,
+) -> Result<Value, Memory>
     ensures { IfOk result (λ value. view value ≡ manifest_put_entry etag.now path.now size) }
 {
-    let mut entry = Map::new(alloc);
-    add_text_field(&mut entry, alloc, "etag", etag)?;
-    add_text_field(&mut entry, alloc, "path", path)?;
-    put(&mut entry, alloc, "size_bytes", Value::from(size))?;
-    Ok(Value::Object(entry))
+    json_object(
+        alloc,
+        &[
+            Member {
+                name: "etag",
+                field: Field::Text(etag),
+            },
+            Member {
+                name: "path",
+                field: Field::Text(path),
+            },
+            Member {
+                name: "size_bytes",
+                field: Field::Number(size),
+            },
+        ],
+    )
 }
 
-fn manifest_got_entry(alloc: Global, etag: &str, path: &str, size: u64) -> Result<Value, AllocError>
+fn manifest_got_entry<'a>(
+    alloc: Global,
+    etag: &'a str,
+    path: &'a str,
+    size: u64,
+) -> Result<Value, Memory>
     ensures { IfOk result (λ value. view value ≡ manifest_got_entry etag.now path.now size) }
 {
-    let mut entry = Map::new(alloc);
-    put(&mut entry, alloc, "bytes", Value::from(size))?;
-    add_text_field(
-        &mut entry,
+    json_object(
         alloc,
-        "content_type",
-        "application/octet-stream",
-    )?;
-    add_text_field(&mut entry, alloc, "hash", etag)?;
-    add_text_field(
-        &mut entry,
-        alloc,
-        "last_modified",
-        "1970-01-01T00:00:00.000000",
-    )?;
-    add_text_field(&mut entry, alloc, "name", path)?;
-    Ok(Value::Object(entry))
-}
-
-fn add_text_field(
-    entry: &mut Map<String, Value>,
-    alloc: Global,
-    field: &str,
-    text: &str,
-) -> Result<(), AllocError>
-    ensures { OnOk result (members_view entry.new.entries
-        ≡ with_member field.now (string text.now) (members_view entry.old.entries)) }
-{
-    put(entry, alloc, field, text.to_value(alloc)?)
+        &[
+            Member {
+                name: "bytes",
+                field: Field::Number(size),
+            },
+            Member {
+                name: "content_type",
+                field: Field::Text("application/octet-stream"),
+            },
+            Member {
+                name: "hash",
+                field: Field::Text(etag),
+            },
+            Member {
+                name: "last_modified",
+                field: Field::Text("1970-01-01T00:00:00.000000"),
+            },
+            Member {
+                name: "name",
+                field: Field::Text(path),
+            },
+        ],
+    )
 }

@@ -1,5 +1,4 @@
 pub mod Answering
-pub mod Fields
 pub mod Json
 pub mod Levels
 pub mod Limits

@@ -4,7 +4,6 @@
 
 mod forms;
 mod laws;
-mod members;
 mod places;
 mod reading;
 mod record;

@@ -7,7 +7,6 @@ ghost use Rattle.upload_texts.specs.declared.record.Record.TheVariants.{Done, Op
 ghost use Rattle.upload_texts.specs.Records.{done_record_in_json, done_record_json, has_record_text, moment_in, open_in, open_record_object, open_record_json, read_record, record_in, record_text, record_value, undated_record_json, dated_record_json, is_known_version, unless_known_record_version, MatchesRecord, ReadsRecord};
 
 use crate::forms::{content_fits_record_text, is_dated, is_moment, list_fits_record_text};
-use crate::members::{Field, Member, record_object};
 use crate::places::{
     record_field_list, record_field_number, record_field_text, record_field_version,
 };
@@ -19,6 +18,7 @@ use gate_base::{Bytes, Copying, List, Memory};
 use s3_machine::Listed;
 use s3_names::{Meta, is_key};
 use serde_json::Value;
+use slo_manifest::{Field, Member, json_object};
 use std::alloc::Global;
 use swift_marks::is_etag;
 use text_forms::text_of;
@@ -216,7 +216,7 @@ fn open_record_object<'a>(
     ensures { IfOk result
         (λ value. view value ≡ open_record_object started key.now (view meta.now) content_type.now) }
 {
-    record_object(
+    json_object(
         alloc,
         &[
             Member {
@@ -279,7 +279,7 @@ fn undated_record_json<'a>(
     ensures { IfOk result
         (λ value. view value ≡ undated_record_json started etag.now key.now (view list.now)) }
 {
-    record_object(
+    json_object(
         alloc,
         &[
             Member {
@@ -321,7 +321,7 @@ fn dated_record_json<'a>(
     ensures { IfOk result
         (λ value. view value ≡ dated_record_json started moment etag.now key.now (view list.now)) }
 {
-    record_object(
+    json_object(
         alloc,
         &[
             Member {

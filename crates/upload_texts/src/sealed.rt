@@ -9,7 +9,6 @@ ghost use Rattle.s3_machine.specs.Uploads.{id_value};
 ghost use Rattle.upload_texts.specs.Sealed.{has_sealed_text, read_sealed, sealed_in, sealed_text, sealed_value, sealed_object, is_first_version, MatchesSealed, ReadsSealed};
 
 use crate::forms::{content_fits_record_text, is_moment, is_sealed_list};
-use crate::members::{Field, Member, record_object};
 use crate::places::{
     record_field_list, record_field_number, record_field_text, record_field_version,
 };
@@ -22,6 +21,7 @@ use crate::values::{metadata_pairs_json, sealed_parts_json};
 use gate_base::{Bytes, Copying, List, Memory};
 use s3_names::{Meta, id_digits, is_bucket, is_key, read_id_digits};
 use serde_json::Value;
+use slo_manifest::{Field, Member, json_object};
 use std::alloc::Global;
 use swift_marks::is_etag;
 use text_forms::text_of;
@@ -180,7 +180,7 @@ fn sealed_json_object<'a>(
     ensures { IfOk result (λ value. view value ≡ sealed_object moment bucket.now etag.now id.now
         key.now (view list.now) (view meta.now) started content_type.now) }
 {
-    record_object(
+    json_object(
         alloc,
         &[
             Member {

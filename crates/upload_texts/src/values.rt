@@ -7,11 +7,11 @@ ghost use Rattle.upload_texts.specs.Places.{record_part_json, metadata_pair_json
 ghost use Rattle.upload_texts.specs.Records.{part_fits_record_text};
 ghost use Rattle.upload_texts.specs.Sealed.{part_fits_sealed_text, sealed_part_json};
 
-use crate::members::{Field, record_array};
 use crate::sealed::SealedPart;
 use gate_base::{Memory, Pair};
 use s3_machine::Listed;
 use serde_json::Value;
+use slo_manifest::{Field, json_array};
 use std::alloc::Global;
 use text_forms::text_of;
 
@@ -35,7 +35,7 @@ fn metadata_pair_json(alloc: Global, pair: &Pair) -> Result<Value, Memory>
 {
     let name = text_of(pair.name.as_slice());
     let value = text_of(pair.value.as_slice());
-    record_array(alloc, &[Field::Text(name), Field::Text(value)])
+    json_array(alloc, &[Field::Text(name), Field::Text(value)])
 }
 
 /// `[NUMBER,ETAG]` for each part that a completion lists.
@@ -58,7 +58,7 @@ fn record_part_json(alloc: Global, listed: &Listed) -> Result<Value, Memory>
 {
     let number = u64::from(listed.number);
     let etag = text_of(listed.etag.as_slice());
-    record_array(alloc, &[Field::Number(number), Field::Text(etag)])
+    json_array(alloc, &[Field::Number(number), Field::Text(etag)])
 }
 
 /// `[NUMBER,ETAG,SIZE]` for each part of a sealed completion.
@@ -81,7 +81,7 @@ fn sealed_part_json(alloc: Global, part: &SealedPart) -> Result<Value, Memory>
 {
     let number = u64::from(part.number);
     let etag = text_of(part.etag.as_slice());
-    record_array(
+    json_array(
         alloc,
         &[
             Field::Number(number),

@@ -2,8 +2,8 @@
 use Rattle.std.proofs.Common.{◌≡◌, ℕ, ◌+◌, ◌<◌, List, [], ◌∷◌, ◌++◌, length, take, get_or, refl, sym, ap, ◌∙◌}
 use Rattle.std.proofs.lemmas.List.{take_more}
 use Rattle.serde_json.specs.Data.{Members, put as with_member}
-use Rattle.upload_texts.specs.Members.{field_json, with_fields}
-use Rattle.upload_texts.specs.declared.members.Member.{Member}
+use Rattle.slo_manifest.specs.Members.{field_json, with_fields}
+use Rattle.slo_manifest.specs.declared.members.Member.{Member}
 
 fields_behind : (front back : List Member) (ms : Members) → with_fields (front ++ back) ms ≡ with_fields back (with_fields front ms)
 fields_behind [] back ms = refl

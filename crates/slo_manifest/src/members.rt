@@ -2,8 +2,7 @@
 ghost use Rattle.std.specs.Prelude.{◌≡◌, IfOk};
 ghost use Rattle.serde_json.specs.Data.{no_members, object};
 ghost use Rattle.serde_json.specs.View.{view};
-ghost use Rattle.upload_texts.specs.Places.{array_of};
-ghost use Rattle.upload_texts.specs.Members.{field_json, with_fields};
+ghost use Rattle.slo_manifest.specs.Members.{array_of, field_json, with_fields};
 
 use gate_base::Memory;
 use serde_json::{Map, ToValue, Value, put};
@@ -11,14 +10,14 @@ use std::alloc::Global;
 
 /// A member: its name, and what it says.
 #[derive(Clone, Copy)]
-pub(crate) struct Member<'a> {
+pub struct Member<'a> {
     pub name: &'a str,
     pub field: Field<'a>,
 }
 
 /// What a member of an object, or an item of an array, says.
 #[derive(Clone, Copy)]
-pub(crate) enum Field<'a> {
+pub enum Field<'a> {
     Text(&'a str),
     Number(u64),
     Json(&'a Value),
@@ -26,7 +25,7 @@ pub(crate) enum Field<'a> {
 
 /// The object that has these members. Of those with one name the last counts.
 #[tactic(auto, using(crate::proofs::Fields::fields_more))]
-pub(crate) fn record_object(alloc: Global, members: &[Member<'_>]) -> Result<Value, Memory>
+pub fn json_object(alloc: Global, members: &[Member<'_>]) -> Result<Value, Memory>
     ensures { IfOk result (λ value. view value ≡ object (with_fields members.now no_members)) }
 {
     let mut map = Map::new(alloc);
@@ -42,8 +41,8 @@ pub(crate) fn record_object(alloc: Global, members: &[Member<'_>]) -> Result<Val
 }
 
 /// The array of what these say.
-#[tactic(auto, using(crate::proofs::Lists::map_more))]
-pub(crate) fn record_array(alloc: Global, fields: &[Field<'_>]) -> Result<Value, Memory>
+#[tactic(auto, using(crate::proofs::ListLemmas::map_more))]
+pub fn json_array(alloc: Global, fields: &[Field<'_>]) -> Result<Value, Memory>
     ensures { IfOk result (λ value. view value ≡ array_of field_json fields.now) }
 {
     let mut values = Vec::new(alloc);
