@@ -9,7 +9,7 @@ use crate::ChunkedFault;
 use crate::scan::{ChunkClass, chunk_length, read_chunk_block, read_chunk_run, read_chunk_word};
 
 /// A chunk: the digits that write its length, its signature, and its bytes.
-#[derive(Clone, Copy, Debug)]
+#[derive(Clone, Copy)]
 pub(crate) struct ChunkParts<'a> {
     pub digits: &'a [u8],
     pub signature: &'a [u8],

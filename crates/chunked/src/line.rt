@@ -12,7 +12,7 @@ use std::alloc::Global;
 use text_forms::without_blanks;
 
 /// A line: its name, the text behind the colon, and what stands before the CRLF that ends it.
-#[derive(Clone, Copy, Debug)]
+#[derive(Clone, Copy)]
 pub(crate) struct LineParts<'a> {
     pub name: &'a [u8],
     pub text: &'a [u8],

@@ -12,7 +12,7 @@ use crate::ChunkedFault;
 use text_forms::is_lower_hex;
 
 /// A class of bytes.
-#[derive(Clone, Copy, Debug, PartialEq, Eq)]
+#[derive(Clone, Copy)]
 pub(crate) enum ChunkClass {
     /// A hexadecimal digit in either case.
     Hex,

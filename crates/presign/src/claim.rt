@@ -15,7 +15,7 @@ use std::alloc::Global;
 
 /// What the query of a presigned request says: who signed it for which day, region and service, which headers, and the
 /// signature; for which time, and for how many seconds from then on.
-#[derive(Debug, Drop)]
+#[derive(Drop)]
 pub struct Claim {
     pub by: Authorization,
     pub time: Bytes,

@@ -13,7 +13,7 @@ const DIGITS: usize = 64;
 
 /// What the Authorization header of a signed request says: who signed it, for which day, region and service, which
 /// headers, and the signature, in hexadecimal digits.
-#[derive(Debug, Drop)]
+#[derive(Drop)]
 pub struct Authorization {
     pub id: Bytes,
     pub date: Bytes,

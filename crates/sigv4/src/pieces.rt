@@ -19,7 +19,7 @@ use std::alloc::Global;
 
 /// What the pieces of a body are signed from, where the head of its request was signed: the signing key, the time and the scope of
 /// the head's signature, and that signature, in 64 lower-case hexadecimal digits.
-#[derive(Debug, Drop)]
+#[derive(Drop)]
 pub struct Seal {
     pub key: [u8; 32],
     pub date_time: Bytes,
