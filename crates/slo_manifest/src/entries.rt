@@ -17,7 +17,7 @@ use std::alloc::Global;
 use text_forms::text_of;
 
 /// Why an entry gives no segment.
-#[derive(Clone, Copy, Debug, PartialEq, Eq)]
+#[derive(Clone, Copy)]
 pub enum EntryFault {
     /// It is no segment.
     Bad,
