@@ -27,7 +27,7 @@ FAULTS = [
     ("gate_base begin: a connection is skipped", "gate_base/src/wire_memory.rt", 1, "match self.waiting.next() {", "match self.waiting.next().and(self.waiting.next()) {"),
     ("gate_base take: a read gives half", "gate_base/src/wire_memory.rt", 1, "let count = most.min(buf.len().min(rest.len()));", "let count = most.min(buf.len().min(rest.len())) / 2;"),
     ("planned_swift account_at: one call early", "planned_swift/src/replay.rt", 1, "for entry in &self.log[..k as usize] {", "for entry in &self.log[..(k as usize).saturating_sub(1)] {", ["sweeps.txt"]),
-    ("planned_swift go: a lost reply leaves the account", "planned_swift/src/replay.rt", 1, "                let _lost = serve(alloc, account, &self.request)?;", "                let _lost = self.request.copy()?;"),
+    ("planned_swift make_call_unanswered: a lost reply leaves the account", "planned_swift/src/replay.rt", 1, "Outcome::LostBefore => Ok(()),", "Outcome::LostBefore | Outcome::LostAfter => Ok(()),"),
     ("account_calls reply_of: a failed call is a refusal", "account_calls/src/plans.rt", 1, "Err(PlanFault::Failed) => Reply::Refused(Code::ServiceUnavailable)", "Err(PlanFault::Failed) => Reply::Refused(Code::AccessDenied)"),
     ("planner find_object_within: another code for a missing key", "planner/src/reading.rt", 1, "Code::NoSuchKey", "Code::NoSuchBucket"),
     ("planner delete_object: a call repeated", "planner/src/objects.rt", 1, "    plan_delete_object_within(state, bucket, key)\n", "    let _ = head_bucket(state, &bucket)?;\n    plan_delete_object_within(state, bucket, key)\n"),

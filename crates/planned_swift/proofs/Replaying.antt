@@ -5,7 +5,7 @@ use Rattle.std.proofs.Common.{refl, sym, ap, subst, ◌∙◌, get_or, add-one, 
 use Rattle.std.proofs.lemmas.Bool.{lt-ltb}
 use Rattle.gate_base.specs.Named.{ascends, changed}
 use Rattle.gate_base.proofs.lemmas.Named.{ascends_placed, names_changed, all_placed, all_changed, both, first_of_two, second_of_two}
-use Rattle.std.proofs.Math.Seq.{take-suc}
+use Rattle.std.proofs.Math.Seq.{take-suc, take-append_seam}
 use Rattle.planned_swift.specs.Accounts.{IsOrdered, is_sized_object, IsSized}
 use Rattle.slo_manifest.specs.declared.Segment.{Segment}
 use Rattle.swift_calls.specs.Bodies.{Look, is_good_list}
@@ -29,6 +29,10 @@ pub replayed_more : (account : Account) (entries : List Entry) (e : Entry) → r
 unfolding replayed
 replayed_more account [] e = refl
 replayed_more account (x ∷ entries) e = replayed_more (left_by x.outcome x.request account) entries e
+
+-- and without it again
+pub without_last : (entries : List Entry) (e : Entry) → take (length entries) (entries ++ e ∷ []) ≡ entries
+without_last entries e = take-append_seam entries (e ∷ [])
 
 pub replayed_none : (account : Account) → replayed account [] ≡ account
 unfolding replayed

@@ -9,7 +9,7 @@ use std::alloc::Global;
 use swift_calls::{Outcome, SwiftRequest};
 
 /// A call that was made, and how it went.
-#[derive(Debug, Drop)]
+#[derive(Drop)]
 pub(crate) struct Entry {
     pub(crate) request: SwiftRequest,
     pub(crate) outcome: Outcome,
@@ -17,7 +17,7 @@ pub(crate) struct Entry {
 
 /// A store in memory. It keeps the account that it began with and the record of all calls. Calls are numbered
 /// from 1.
-#[derive(Debug, Drop)]
+#[derive(Drop)]
 pub struct MemSwift {
     pub(crate) first: Account,
     pub(crate) present: Account,

@@ -16,7 +16,7 @@ use crate::serve::serve;
 use crate::{Account, MemSwift};
 use gate_base::{Copying, Counted, List, Memory};
 use std::alloc::Global;
-use swift_calls::{Outcome, Swift, SwiftFault, SwiftReply, SwiftRequest, outcome_at};
+use swift_calls::{Outcome, Swift, SwiftFault, SwiftReply, SwiftRequest, drop_reply, outcome_at};
 
 impl MemSwift {
     /// A store with this account. The calls whose numbers are in `before` fail without effect, those in `after` after
@@ -70,7 +70,7 @@ impl MemSwift {
     {
         let mut account = self.first.copy()?;
         for entry in &self.log[..k as usize] {
-            let _reply = entry.go(self.alloc, &mut account)?;
+            make_call_unanswered(self.alloc, &mut account, &entry.request, entry.outcome)?;
         }
         Ok(account)
     }
@@ -116,6 +116,7 @@ impl MemSwift {
 }
 
 /// Makes a call as its outcome says, and records it. Where memory runs out, all is as it was.
+#[tactic(auto, using(crate::proofs::Replaying::without_last))]
 fn enter_call_for_replay(
     alloc: Global,
     log: &mut Vec<Entry>,
@@ -133,35 +134,67 @@ fn enter_call_for_replay(
     ensures kept { OnErr result (account.new ≡ account.old) }
     ensures same { OnErr result (log.new.items ≡ log.old.items) }
 {
-    log.reserve(1)?;
-    let entry = Entry {
-        request: request.copy()?,
-        outcome,
-    };
-    let reply = entry.go(alloc, account)?;
-    log.push(entry).unwrap();
-    Ok(reply)
+    let count = log.len();
+    record_call(log, request, outcome)?;
+    let reply = make_call(alloc, account, request, outcome);
+    if reply.is_err() {
+        log.truncate(count);
+    }
+    reply
 }
 
-impl Entry {
-    /// Makes the call as its outcome says, and gives its reply where it is answered. Where memory runs out, nothing
-    /// changes.
-    fn go(&self, alloc: Global, account: &mut Account) -> Result<Option<SwiftReply>, Memory>
-        requires ordered { IsOrdered account.old }
-        requires sized { IsSized account.old }
-        ensures reply { IfOk result (λ reply. reply ≡ reply_by self.now.outcome
-            (swift_step self.now.request (tree_of account.old)).reply) }
-        ensures effect { OnOk result
-            (account.new ≡ left_by self.now.outcome self.now.request account.old) }
-        ensures err { OnErr result (account.new ≡ account.old) }
-    {
-        match self.outcome {
-            Outcome::Answered => Ok(Some(serve(alloc, account, &self.request)?)),
-            Outcome::LostBefore => Ok(None),
-            Outcome::LostAfter => {
-                let _lost = serve(alloc, account, &self.request)?;
-                Ok(None)
-            }
+/// Records a call.
+fn record_call(log: &mut Vec<Entry>, request: &SwiftRequest, outcome: Outcome) -> Result<(), Memory>
+    ensures logs { OnOk result (log.new.items ≡ log.old.items
+        ++ record { request = request.now; outcome = outcome } ∷ []) }
+    ensures same { OnErr result (log.new.items ≡ log.old.items) }
+{
+    log.reserve(1)?;
+    let request = request.copy()?;
+    log.push_reserved(Entry { request, outcome });
+    Ok(())
+}
+
+/// Makes a call as its outcome says, and gives its reply where it is answered. Where memory runs out, nothing changes.
+fn make_call(
+    alloc: Global,
+    account: &mut Account,
+    request: &SwiftRequest,
+    outcome: Outcome,
+) -> Result<Option<SwiftReply>, Memory>
+    requires ordered { IsOrdered account.old }
+    requires sized { IsSized account.old }
+    ensures reply { IfOk result
+        (λ reply. reply ≡ reply_by outcome (swift_step request.now (tree_of account.old)).reply) }
+    ensures effect { OnOk result (account.new ≡ left_by outcome request.now account.old) }
+    ensures err { OnErr result (account.new ≡ account.old) }
+{
+    match outcome {
+        Outcome::Answered => Ok(Some(serve(alloc, account, request)?)),
+        _ => {
+            make_call_unanswered(alloc, account, request, outcome)?;
+            Ok(None)
+        }
+    }
+}
+
+/// Makes a call as its outcome says, and gives no reply. Where memory runs out, nothing changes.
+fn make_call_unanswered(
+    alloc: Global,
+    account: &mut Account,
+    request: &SwiftRequest,
+    outcome: Outcome,
+) -> Result<(), Memory>
+    requires ordered { IsOrdered account.old }
+    requires sized { IsSized account.old }
+    ensures effect { OnOk result (account.new ≡ left_by outcome request.now account.old) }
+    ensures err { OnErr result (account.new ≡ account.old) }
+{
+    match outcome {
+        Outcome::LostBefore => Ok(()),
+        _ => {
+            drop_reply(serve(alloc, account, request)?);
+            Ok(())
         }
     }
 }

@@ -3,8 +3,8 @@ use Rattle.planned_swift.specs.Replay.{all_small}
 use Rattle.planned_swift.proofs.Replaying.{small_take, sized_at_take}
 use Rattle.planned_swift.proofs.memory.MemSwift.account_at.Goals as goal
 
-pub go-requires-clause-sized : goal.go-requires-clause-sized
-go-requires-clause-sized c =
+pub make_call_unanswered-requires-clause-sized : goal.make_call_unanswered-requires-clause-sized
+make_call_unanswered-requires-clause-sized c =
     let small = subst (λ l. IsTrue (all_small l)) (sym c.deref.ensures.value) c.args.self.now.small in
     sized_at_take _ _ _ _ c.loop-entry.invariant c.args.self.now.sized (small_take c.args.k c.deref.result.now small)
 
