@@ -32,15 +32,9 @@ nothing = None
 pub listed_no_json : {A : Type 0} (f : Json → Option A) (text : List ℕ) → no_json ≡ listing_json text → nothing ≡ option_and_then (each f) (items_in text)
 listed_no_json f text none = ap (λ json. option_and_then (each f) (option_and_then as_array json)) none
 
-pub listed_no_list : {A : Type 0} (f : Json → Option A) (text : List ℕ) (json : Json) → Some json ≡ listing_json text → as_array json ≡ None
-    → nothing ≡ option_and_then (each f) (items_in text)
-listed_no_list f text json some none =
-    ap (option_and_then (each f)) (sym none) ∙ ap (λ found. option_and_then (each f) (option_and_then as_array found)) some
-
-pub listed : {A B : Type 0} (f : Json → Option A) (text : List ℕ) (json : Json) (values : List (Value B)) → Some json ≡ listing_json text
-    → as_array json ≡ Some (items_view values) → each f (items_view values) ≡ option_and_then (each f) (items_in text)
-listed f text json values some list =
-    ap (option_and_then (each f)) (sym list) ∙ ap (λ found. option_and_then (each f) (option_and_then as_array found)) some
+pub listed : {A : Type 0} (f : Json → Option A) (text : List ℕ) (json : Json) → Some json ≡ listing_json text
+    → option_and_then (each f) (as_array json) ≡ option_and_then (each f) (items_in text)
+listed f text json some = ap (λ found. option_and_then (each f) (option_and_then as_array found)) some
 
 abbrev front : {A : Type 0} → Option A → Option (List A) → Option (List A)
 front o rest = both (λ first others. first ∷ others) o rest

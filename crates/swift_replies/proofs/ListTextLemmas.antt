@@ -1,6 +1,7 @@
 -- Listings in JSON, as they are written.
 use Rattle.std.proofs.Common.{◌≡◌, ℕ, zero, suc, ◌+◌, ◌^◌, ◌<◌, Bool, true, false, List, [], ◌∷◌, ◌++◌, length, get_or, map, take, refl, sym, ap, ◌∙◌, arith}
 use Rattle.std.proofs.Common.{Vec, Global}
+use Rattle.std.specs.Prelude.{Result, Ok, Err, IfOk}
 use Rattle.std.specs.List.{list_all}
 use Rattle.std.specs.Str.{is_utf8}
 use Rattle.std.proofs.lemmas.Bool.{and_parts, ltb-true}
@@ -11,7 +12,7 @@ use Rattle.serde_json.specs.Written.{has_float, items_have_float, compact_text}
 use Rattle.serde_json.specs.declared.value.Value.{Value, Array}
 use Rattle.serde_json.proofs.Views.{view-Array}
 use Rattle.swift_calls.specs.declared.heads.NameItem.{NameItem}
-use Rattle.swift_replies.specs.AnswerText.{list_text, container_value, item_value, is_spelled_name_item}
+use Rattle.swift_replies.specs.AnswerText.{list_text, is_spelled_name_item}
 
 -- ---- what an entry that is written has
 
@@ -55,18 +56,21 @@ map_more f xs i x below same = ap (map f) (take_more xs i x below ∙ ap (λ t. 
 
 -- ---- no entry has a float
 
-pub names_have_no_float : (names : List (List ℕ)) → items_have_float (items_of (map container_value names)) ≡ false
-names_have_no_float [] = refl
-names_have_no_float (name ∷ names) = names_have_no_float names
-
-pub items_have_no_float : (items : List NameItem) → items_have_float (items_of (map item_value items)) ≡ false
-items_have_no_float [] = refl
-items_have_no_float (i ∷ items) = items_have_no_float items
+pub no_float_in : {X : Type 0} (entry : X → Data) → ((x : X) → has_float (entry x) ≡ false) → (xs : List X) → items_have_float (items_of (map entry xs)) ≡ false
+no_float_in entry none [] = refl
+no_float_in entry none (x ∷ xs) = rw (none x) (no_float_in entry none xs)
 
 -- the text of a list of entries
-pub text_written : (values : Vec Value Global) (entries : List Data) (text : List ℕ) → map view values.items ≡ entries
+text_written : (values : Vec Value Global) (entries : List Data) (text : List ℕ) → map view values.items ≡ entries
     → items_have_float (items_of entries) ≡ false
     → (has_float (view (Array values)) ≡ false → text ≡ compact_text (view (Array values))) → text ≡ list_text entries
 text_written values entries text made plain spelled =
     let same : view (Array values) ≡ array (items_of entries) = view-Array values ∙ ap (λ ds. array (items_of ds)) made in
     spelled (ap has_float same ∙ plain) ∙ ap compact_text same
+
+-- the same of what writing it answers
+pub text_of_entries : {E : Type 0} (values : Vec Value Global) (entries : List Data) (written : Result (List ℕ) E) → map view values.items ≡ entries
+    → items_have_float (items_of entries) ≡ false
+    → IfOk written (λ text. has_float (view (Array values)) ≡ false → text ≡ compact_text (view (Array values))) → IfOk written (λ text. text ≡ list_text entries)
+text_of_entries values entries (Ok text) made plain spelled = text_written values entries text made plain spelled
+text_of_entries values entries (Err fault) made plain spelled = spelled

@@ -1,6 +1,6 @@
 -- Pieces of metadata, one after the other.
-use Rattle.std.proofs.Common.{◌≡◌, ℕ, suc, ◌+◌, ◌-◌, ◌<◌, ◌≤◌, Bool, true, false, cond, List, [], ◌∷◌, ◌++◌, Option, Some, None, refl, ap, sym, ◌∙◌, arith, append_assoc, append-nil}
-use Rattle.std.specs.Prelude.{option_map}
+use Rattle.std.proofs.Common.{◌≡◌, ℕ, suc, ◌+◌, ◌-◌, ◌<◌, ◌≤◌, Bool, true, false, not, cond, List, [], ◌∷◌, ◌++◌, Option, Some, None, refl, ap, sym, ◌∙◌, arith, append_assoc, append-nil}
+use Rattle.std.specs.Prelude.{option_map, Result, Ok, Err, IfOk}
 use Rattle.gate_base.specs.declared.page.Pair.{Pair}
 use Rattle.http_wire.specs.Headers.{has_header}
 use Rattle.http_answers.specs.Fields.{field}
@@ -59,15 +59,28 @@ full : (headers : List Pair) (b : Bool) → has_header (meta_name 11) headers �
 unfolding meta_from
 full headers b found = ap (λ t. cond t None (Some [])) found
 
-pub read_too_many : (headers : List Pair) (pieces : List (List ℕ)) (index : ℕ) → HasRead headers pieces index → 11 ≤ index
+read_too_many : (headers : List Pair) (pieces : List (List ℕ)) (index : ℕ) → HasRead headers pieces index → 11 ≤ index
     → has_header (meta_name 11) headers ≡ true → None ≡ meta_in headers
 read_too_many headers pieces index done past found =
     let e : index ≡ 11 = omega (arith, done.within) in
     sym (done.read ∙ ap (λ i. behind pieces (meta_from (11 - i) i headers)) e ∙ ap (behind pieces) (full headers true found))
 
-pub read_full : (headers : List Pair) (pieces : List (List ℕ)) (index : ℕ) → HasRead headers pieces index → 11 ≤ index
+read_full : (headers : List Pair) (pieces : List (List ℕ)) (index : ℕ) → HasRead headers pieces index → 11 ≤ index
     → has_header (meta_name 11) headers ≡ false → Some pieces ≡ meta_in headers
 read_full headers pieces index done past found =
     let e : index ≡ 11 = omega (arith, done.within) in
     sym (done.read ∙ ap (λ i. behind pieces (meta_from (11 - i) i headers)) e ∙ ap (behind pieces) (full headers false found)
     ∙ ap (λ all. Some all) (append-nil pieces))
+
+-- all of the most that there may be, and whether there is one more
+read_end : (headers : List Pair) (pieces : List (List ℕ)) (index : ℕ) (more : Bool) → HasRead headers pieces index → 11 ≤ index
+    → has_header (meta_name 11) headers ≡ more → cond (not more) (Some pieces) None ≡ meta_in headers
+read_end headers pieces index true done past found = read_too_many headers pieces index done past found
+read_end headers pieces index false done past found = read_full headers pieces index done past found
+
+-- the same of what asking for that answers
+pub if_ok_end : {E : Type 0} (headers : List Pair) (pieces : List (List ℕ)) (index : ℕ) (lacks : Result Bool E) → HasRead headers pieces index → 11 ≤ index
+    → IfOk lacks (λ b. b ≡ not (has_header (meta_name 11) headers)) → IfOk lacks (λ b. cond b (Some pieces) None ≡ meta_in headers)
+if_ok_end headers pieces index (Ok b) done past found =
+    ap (λ t. cond t (Some pieces) None) found ∙ read_end headers pieces index (has_header (meta_name 11) headers) done past refl
+if_ok_end headers pieces index (Err fault) done past found = found

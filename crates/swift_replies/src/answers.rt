@@ -7,7 +7,7 @@ ghost use Rattle.swift_replies.specs.Answers.{ReadsAnswer, asks_head, reply_body
 
 use crate::WireFault;
 use crate::fields::container_created_in;
-use crate::lists::{container_names, name_items};
+use crate::lists::items_in_listing;
 use crate::manifests::get_manifest_reply;
 use crate::objects::head_in;
 use crate::values::{etag_in, reply_readers_in, whole_size_in};
@@ -113,7 +113,7 @@ fn containers_reply(alloc: Global, status: u16, body: &[u8]) -> Result<Option<Sw
     ensures { IfOk result (λ reply. reply ≡ containers_reply status body.now) }
 {
     if status == 200 {
-        return match container_names(alloc, body)? {
+        return match items_in_listing(alloc, body)? {
             Some(names) => Ok(Some(SwiftReply::Containers(names))),
             None => Ok(None),
         };
@@ -129,7 +129,7 @@ fn names_reply(alloc: Global, status: u16, body: &[u8]) -> Result<Option<SwiftRe
     ensures { IfOk result (λ reply. reply ≡ names_reply status body.now) }
 {
     if status == 200 {
-        return match name_items(alloc, body)? {
+        return match items_in_listing(alloc, body)? {
             Some(items) => Ok(Some(SwiftReply::Names(items))),
             None => Ok(None),
         };

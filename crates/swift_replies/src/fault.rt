@@ -1,10 +1,8 @@
-ghost use Rattle.std.specs.Prelude.{◌≡◌};
-
-use gate_base::{Copying, Memory};
+use gate_base::Memory;
 use std::alloc::AllocError;
 
 /// Why a message or an answer isn't read.
-#[derive(Clone, Copy, Debug, PartialEq, Eq)]
+#[derive(Clone, Copy, Debug)]
 pub enum WireFault {
     /// The message is no call of Object Storage API v1 at the place.
     NotACall,
@@ -14,14 +12,6 @@ pub enum WireFault {
 
     /// Memory ran out.
     Memory,
-}
-
-impl Copying for WireFault {
-    fn copy(&self) -> Result<WireFault, Memory>
-        ensures { result ≡ Ok self.now }
-    {
-        Ok(*self)
-    }
 }
 
 impl From<Memory> for WireFault {

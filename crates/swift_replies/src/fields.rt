@@ -1,7 +1,8 @@
 //! The values of header fields, each as it is read.
-ghost use Rattle.std.specs.Prelude.{◌≡◌, option_map, IfOk};
+ghost use Rattle.std.specs.Prelude.{◌≡◌, ◌++◌, ◌∷◌, [], not, Some, None, if◌then◌else◌, option_map, IfOk, OnOk};
 ghost use Rattle.std.specs.Option.{option_copied};
 ghost use Rattle.http_answers.specs.Fields.{field};
+ghost use Rattle.http_wire.specs.Headers.{has_header};
 ghost use Rattle.swift_replies.specs.Fields.{container_readers_by_value, moment_in, container_created_in, meta_name, meta_in};
 
 use gate_base::{Bytes, List, MOMENT_LIMIT, Memory, Pair};
@@ -79,17 +80,43 @@ pub fn meta_in(alloc: Global, headers: &[Pair]) -> Result<Option<List<Bytes>>, M
     ensures { IfOk result (λ pieces. pieces ≡ meta_in headers.now) }
 {
     let mut pieces = List::new(alloc);
+    if append_meta_pieces(alloc, headers, &mut pieces)? {
+        Ok(Some(pieces))
+    } else {
+        Ok(None)
+    }
+}
+
+/// Appends these. False where one of them is there twice, or there are more.
+fn append_meta_pieces(
+    alloc: Global,
+    headers: &[Pair],
+    pieces: &mut List<Bytes>,
+) -> Result<bool, Memory>
+    requires { pieces.old ≡ [] }
+    ensures { IfOk result
+        (λ read. (if read then Some pieces.new else None) ≡ meta_in headers.now) }
+{
     'pieces: for index in 0..MOST_PIECES {
         match object_meta_piece_in(alloc, headers, index)? {
-            Some(Some(piece)) => pieces.push(Bytes::from_slice(alloc, piece)?)?,
-            Some(None) => return Ok(Some(pieces)),
-            None => return Ok(None),
+            Some(Some(piece)) => push_meta_piece(alloc, pieces, piece)?,
+            Some(None) => return Ok(true),
+            None => return Ok(false),
         }
     }
-    let next = meta_name(alloc, MOST_PIECES)?;
-    if has_header(headers, next.as_slice()) {
-        Ok(None)
-    } else {
-        Ok(Some(pieces))
-    }
+    lacks_meta_piece(alloc, headers, MOST_PIECES)
+}
+
+fn push_meta_piece(alloc: Global, pieces: &mut List<Bytes>, piece: &[u8]) -> Result<(), Memory>
+    ensures { OnOk result (pieces.new ≡ pieces.old ++ piece.now ∷ []) }
+{
+    pieces.push(Bytes::from_slice(alloc, piece)?)
+}
+
+/// Whether no header is the piece of metadata of an index.
+fn lacks_meta_piece(alloc: Global, headers: &[Pair], index: u64) -> Result<bool, Memory>
+    ensures { IfOk result (λ lacks. lacks ≡ not (has_header (meta_name index) headers.now)) }
+{
+    let name = meta_name(alloc, index)?;
+    Ok(!has_header(headers, name.as_slice()))
 }

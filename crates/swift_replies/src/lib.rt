@@ -7,6 +7,7 @@ mod fault;
 mod fields;
 mod header_text;
 mod list_text;
+mod listed;
 mod lists;
 mod manifests;
 mod objects;

@@ -1,10 +1,11 @@
 //! Listings in JSON, as they are written.
-ghost use Rattle.std.specs.Prelude.{◌≡◌, ◌&&◌, ◌^◌, nat_lt, map, IfOk, true, Option, Some, None, if◌then◌else◌};
+ghost use Rattle.std.specs.Prelude.{◌≡◌, ◌^◌, [], nat_lt, map, IfOk, OnOk, true, false, Some, None, if◌then◌else◌};
 ghost use Rattle.std.specs.List.{list_all};
-ghost use Rattle.std.specs.Str.{is_utf8};
 ghost use Rattle.serde_json.specs.View.{view};
+ghost use Rattle.serde_json.specs.Written.{compact_text, has_float};
 ghost use Rattle.swift_replies.specs.AnswerText.{list_text, container_value, item_by, item_value, is_spelled_name_item};
 
+use crate::listed::Listed;
 use gate_base::{Bytes, Memory};
 use serde_json::{Value, json};
 use std::alloc::{AllocError, Global};
@@ -14,43 +15,25 @@ use text_forms::{is_utf8, text_of};
 /// Each number from this one on has 20 digits.
 const SIZE_LIMIT: u64 = 10_000_000_000_000_000_000;
 
-/// The text of a listing of containers; none where a name isn't UTF-8.
-pub(crate) fn containers_text(alloc: Global, names: &[Bytes]) -> Result<Option<Bytes>, Memory>
-    ensures { IfOk result (λ text. text ≡ (if list_all is_utf8 names.now then Some
-        (list_text (map container_value names.now)) else None)) }
+/// The text of a listing; none where a text of one of its items isn't UTF-8.
+pub(crate) fn listing_text<T: Listed>(alloc: Global, items: &[T]) -> Result<Option<Bytes>, Memory>
+    ensures { IfOk result (λ text. text ≡ (if list_all T.spelled items.now then Some
+        (list_text (map T.written items.now)) else None)) }
 {
-    if are_spelled_container_names(names) {
-        Ok(Some(json_of_container_names(alloc, names)?))
+    if are_spelled(items) {
+        Ok(Some(json_of_items(alloc, items)?))
     } else {
         Ok(None)
     }
 }
 
-/// The text of a listing of objects; none where one of their texts isn't UTF-8.
-pub(crate) fn items_text(alloc: Global, items: &[NameItem]) -> Result<Option<Bytes>, Memory>
-    ensures { IfOk result (λ text. text ≡ (if list_all is_spelled_name_item items.now then Some
-        (list_text (map item_value items.now)) else None)) }
+fn are_spelled<T: Listed>(items: &[T]) -> bool
+    ensures { result ≡ list_all T.spelled items.now }
 {
-    if are_spelled_name_items(items) {
-        Ok(Some(json_of_name_items(alloc, items)?))
-    } else {
-        Ok(None)
-    }
+    items.iter().all(|item| item.is_spelled())
 }
 
-fn are_spelled_container_names(names: &[Bytes]) -> bool
-    ensures { result ≡ list_all is_utf8 names.now }
-{
-    names.iter().all(|name| is_utf8(name.as_slice()))
-}
-
-fn are_spelled_name_items(items: &[NameItem]) -> bool
-    ensures { result ≡ list_all is_spelled_name_item items.now }
-{
-    items.iter().all(|item| is_spelled_name_item(item))
-}
-
-fn is_spelled_name_item(item: &NameItem) -> bool
+pub(crate) fn is_spelled_name_item(item: &NameItem) -> bool
     ensures { result ≡ is_spelled_name_item item.now }
 {
     is_utf8(item.name.as_slice())
@@ -65,38 +48,47 @@ fn is_spelled_item_size(size: u64) -> bool
     size < SIZE_LIMIT
 }
 
-#[tactic(auto, using(crate::proofs::ListTextLemmas::passes, crate::proofs::ListTextLemmas::map_more))]
-fn json_of_container_names(alloc: Global, names: &[Bytes]) -> Result<Bytes, Memory>
-    requires { list_all is_utf8 names.now ≡ true }
-    ensures { IfOk result (λ text. text ≡ list_text (map container_value names.now)) }
+fn json_of_items<T: Listed>(alloc: Global, items: &[T]) -> Result<Bytes, Memory>
+    requires { list_all T.spelled items.now ≡ true }
+    ensures { IfOk result (λ text. text ≡ list_text (map T.written items.now)) }
 {
     let mut entries = Vec::new(alloc);
-    for name in names {
-        entries.push(container_value(alloc, text_of(name.as_slice()))?)?;
-    }
-    Ok(Bytes::from_vec(Value::Array(entries).to_vec(alloc)?))
+    append_entries(alloc, items, &mut entries)?;
+    json_text(alloc, &Value::Array(entries))
 }
 
+/// Appends the entry of each item.
 #[tactic(auto, using(crate::proofs::ListTextLemmas::passes, crate::proofs::ListTextLemmas::map_more))]
-fn json_of_name_items(alloc: Global, items: &[NameItem]) -> Result<Bytes, Memory>
-    requires { list_all is_spelled_name_item items.now ≡ true }
-    ensures { IfOk result (λ text. text ≡ list_text (map item_value items.now)) }
+fn append_entries<T: Listed>(
+    alloc: Global,
+    items: &[T],
+    entries: &mut Vec<Value>,
+) -> Result<(), Memory>
+    requires spelled { list_all T.spelled items.now ≡ true }
+    requires empty { entries.old.items ≡ [] }
+    ensures { OnOk result (map view entries.new.items ≡ map T.written items.now) }
 {
-    let mut entries = Vec::new(alloc);
     for item in items {
-        entries.push(json_value_of_item(alloc, item)?)?;
+        entries.push(item.to_entry(alloc)?)?;
     }
-    Ok(Bytes::from_vec(Value::Array(entries).to_vec(alloc)?))
+    Ok(())
 }
 
-fn container_value(alloc: Global, name: &str) -> Result<Value, AllocError>
+fn json_text(alloc: Global, value: &Value) -> Result<Bytes, Memory>
+    ensures { IfOk result (λ text. has_float (view value.now) ≡ false → text ≡ compact_text
+        (view value.now)) }
+{
+    Ok(Bytes::from_vec(value.to_vec(alloc)?))
+}
+
+pub(crate) fn container_value(alloc: Global, name: &str) -> Result<Value, AllocError>
     ensures { IfOk result (λ value. view value ≡ container_value name.now) }
 {
     json!(in alloc; {"bytes": 0u64, "count": 0u64, "name": name})
 }
 
 #[tactic(auto, using(crate::proofs::ListTextLemmas::name_is_utf8, crate::proofs::ListTextLemmas::hash_is_utf8, crate::proofs::ListTextLemmas::type_is_utf8))]
-fn json_value_of_item(alloc: Global, item: &NameItem) -> Result<Value, AllocError>
+pub(crate) fn json_value_of_item(alloc: Global, item: &NameItem) -> Result<Value, AllocError>
     requires { is_spelled_name_item item.now ≡ true }
     ensures { IfOk result (λ value. view value ≡ item_value item.now) }
 {

@@ -1,9 +1,11 @@
 //! Listings in JSON, as they are read.
-ghost use Rattle.std.specs.Prelude.{◌≡◌, option_map, IfOk};
+ghost use Rattle.std.specs.Prelude.{◌≡◌, [], Some, None, if◌then◌else◌, option_and_then, option_map, IfOk};
 ghost use Rattle.json.specs.Find.{as_array};
 ghost use Rattle.json.specs.Value.{value_view, items_view};
-ghost use Rattle.swift_replies.specs.Answers.{each, container_name, name_item, container_names, listing_json, name_items, number_in, text_in};
+ghost use Rattle.swift_replies.specs.Answers.{each, item_from, items_in, listing_json, name_item, number_in, text_in};
 
+use crate::listed::Listed;
+use crate::objects::copied_texts;
 use gate_base::{Bytes, List, Memory};
 use json::{Error, Scratch, Value};
 use std::alloc::Global;
@@ -13,34 +15,31 @@ use text_forms::number_of;
 /// The most digits of a size.
 const MOST_DIGITS: usize = 19;
 
-/// The names of a listing of containers; none where the text is no such listing.
-#[tactic(auto, using(crate::proofs::ListLemmas::listed_no_json, crate::proofs::ListLemmas::listed_no_list, crate::proofs::ListLemmas::listed))]
-pub(crate) fn container_names(alloc: Global, body: &[u8]) -> Result<Option<List<Bytes>>, Memory>
-    ensures { IfOk result (λ names. names ≡ container_names body.now) }
+/// The items of a listing; none where the text is no such listing.
+pub(crate) fn items_in_listing<T: Listed + Drop>(
+    alloc: Global,
+    body: &[u8],
+) -> Result<Option<List<T>>, Memory>
+    ensures { IfOk result
+        (λ items. items ≡ option_and_then (each T.gives) (items_in body.now)) }
 {
     let mut scratch = Scratch::new(alloc);
-    let Some(value) = listing_json_in(alloc, body, &mut scratch)? else {
-        return Ok(None);
-    };
-    let Some(entries) = listing_json_entries(&value) else {
-        return Ok(None);
-    };
-    container_names_in_json_entries(alloc, entries)
+    items_in_listing_with(alloc, body, &mut scratch)
 }
 
-/// The objects of a listing of a container; none where the text is no such listing.
-#[tactic(auto, using(crate::proofs::ListLemmas::listed_no_json, crate::proofs::ListLemmas::listed_no_list, crate::proofs::ListLemmas::listed))]
-pub(crate) fn name_items(alloc: Global, body: &[u8]) -> Result<Option<List<NameItem>>, Memory>
-    ensures { IfOk result (λ items. items ≡ name_items body.now) }
+#[tactic(auto, using(crate::proofs::ListLemmas::listed_no_json, crate::proofs::ListLemmas::listed))]
+fn items_in_listing_with<T: Listed + Drop>(
+    alloc: Global,
+    body: &[u8],
+    scratch: &mut Scratch<Global>,
+) -> Result<Option<List<T>>, Memory>
+    ensures { IfOk result
+        (λ items. items ≡ option_and_then (each T.gives) (items_in body.now)) }
 {
-    let mut scratch = Scratch::new(alloc);
-    let Some(value) = listing_json_in(alloc, body, &mut scratch)? else {
-        return Ok(None);
-    };
-    let Some(entries) = listing_json_entries(&value) else {
-        return Ok(None);
-    };
-    name_items_in_json_entries(alloc, entries)
+    match listing_json_in(alloc, body, scratch)? {
+        Some(value) => items_in_json(alloc, &value),
+        None => Ok(None),
+    }
 }
 
 /// The JSON of a text. Its texts are borrowed, so that no entry takes memory but for its members.
@@ -59,53 +58,50 @@ fn listing_json_in<'a>(
     }
 }
 
-/// The entries of a list.
-fn listing_json_entries<'v, 'a>(value: &'v Value<'a>) -> Option<&'v [Value<'a>]>
-    ensures { option_map (λ entries. items_view entries.now) result ≡ as_array (value_view value.now) }
-{
-    if let Value::Array(entries) = value {
-        Some(entries.as_slice())
-    } else {
-        None
-    }
-}
-
-#[tactic(auto, using(crate::proofs::ListLemmas::each_more, crate::proofs::ListLemmas::each_none, crate::proofs::ListLemmas::each_all))]
-fn container_names_in_json_entries(
+/// The items of a list, one for each of its entries.
+fn items_in_json<T: Listed + Drop>(
     alloc: Global,
-    entries: &[Value<'_>],
-) -> Result<Option<List<Bytes>>, Memory>
-    ensures { IfOk result (λ names. names ≡ each container_name (items_view entries.now)) }
+    value: &Value<'_>,
+) -> Result<Option<List<T>>, Memory>
+    ensures { IfOk result
+        (λ items. items ≡ option_and_then (each T.gives) (as_array (value_view value.now))) }
 {
-    let mut names = List::new(alloc);
-    for entry in entries {
-        let Some(name) = json_listing_entry_text(entry, "name") else {
-            return Ok(None);
-        };
-        names.push(Bytes::from_slice(alloc, name.as_bytes())?)?;
-    }
-    Ok(Some(names))
-}
-
-#[tactic(auto, using(crate::proofs::ListLemmas::each_more, crate::proofs::ListLemmas::each_none, crate::proofs::ListLemmas::each_all))]
-fn name_items_in_json_entries(
-    alloc: Global,
-    entries: &[Value<'_>],
-) -> Result<Option<List<NameItem>>, Memory>
-    ensures { IfOk result (λ items. items ≡ each name_item (items_view entries.now)) }
-{
+    let Value::Array(entries) = value else {
+        return Ok(None);
+    };
     let mut items = List::new(alloc);
+    if append_items_in_json_entries(alloc, entries.as_slice(), &mut items)? {
+        Ok(Some(items))
+    } else {
+        Ok(None)
+    }
+}
+
+/// Appends what each entry gives. False where one gives nothing.
+#[tactic(auto, using(crate::proofs::ListLemmas::each_more, crate::proofs::ListLemmas::each_none, crate::proofs::ListLemmas::each_all))]
+fn append_items_in_json_entries<T: Listed + Drop>(
+    alloc: Global,
+    entries: &[Value<'_>],
+    items: &mut List<T>,
+) -> Result<bool, Memory>
+    requires { items.old ≡ [] }
+    ensures { IfOk result (λ all. (if all then Some items.new else None) ≡ each T.gives
+        (items_view entries.now)) }
+{
     for entry in entries {
-        let Some(item) = name_item_in_json_entry(alloc, entry)? else {
-            return Ok(None);
+        let Some(item) = T::from_entry(alloc, entry)? else {
+            return Ok(false);
         };
         items.push(item)?;
     }
-    Ok(Some(items))
+    Ok(true)
 }
 
 /// The object that an entry of a listing has.
-fn name_item_in_json_entry(alloc: Global, entry: &Value<'_>) -> Result<Option<NameItem>, Memory>
+pub(crate) fn name_item_in_json_entry(
+    alloc: Global,
+    entry: &Value<'_>,
+) -> Result<Option<NameItem>, Memory>
     ensures { IfOk result (λ item. item ≡ name_item (value_view entry.now)) }
 {
     let Some(name) = json_listing_entry_text(entry, "name") else {
@@ -117,18 +113,34 @@ fn name_item_in_json_entry(alloc: Global, entry: &Value<'_>) -> Result<Option<Na
     let Some(size) = json_listing_entry_number(entry, "bytes") else {
         return Ok(None);
     };
-    let Some(content_type) = json_listing_entry_text(entry, "content_type") else {
-        return Ok(None);
-    };
+    match json_listing_entry_text(entry, "content_type") {
+        Some(content_type) => copied_name_item(alloc, name, hash, size, content_type),
+        None => Ok(None),
+    }
+}
+
+/// An object of these texts, which are copied.
+fn copied_name_item(
+    alloc: Global,
+    name: &str,
+    hash: &str,
+    size: u64,
+    content_type: &str,
+) -> Result<Option<NameItem>, Memory>
+    ensures { IfOk result (λ item. item ≡ item_from (Some name.now) (Some hash.now) (Some size)
+        (Some content_type.now)) }
+{
+    let (name, hash) = copied_texts(alloc, name.as_bytes(), hash.as_bytes())?;
+    let content_type = Bytes::from_slice(alloc, content_type.as_bytes())?;
     Ok(Some(NameItem {
-        name: Bytes::from_slice(alloc, name.as_bytes())?,
-        hash: Bytes::from_slice(alloc, hash.as_bytes())?,
+        name,
+        hash,
         size,
-        content_type: Bytes::from_slice(alloc, content_type.as_bytes())?,
+        content_type,
     }))
 }
 
-fn json_listing_entry_text<'v>(value: &'v Value<'_>, field: &str) -> Option<&'v str>
+pub(crate) fn json_listing_entry_text<'v>(value: &'v Value<'_>, field: &str) -> Option<&'v str>
     ensures { option_map (λ text. text.now) result ≡ text_in field.now (value_view value.now) }
 {
     value.get(field)?.as_str()

@@ -10,7 +10,7 @@ use crate::header_text::{
     append_answer_status, append_swift_created, append_swift_header, append_swift_meta,
     append_swift_number_header, readers_text,
 };
-use crate::list_text::{containers_text, items_text};
+use crate::list_text::listing_text;
 use crate::values::is_tag;
 use gate_base::{Bytes, MOMENT_LIMIT, Memory};
 use http_answers::HEAD_LIMIT;
@@ -422,7 +422,7 @@ fn append_answer_range_value(
 fn containers_answer(alloc: Global, names: &[Bytes]) -> Result<Bytes, Memory>
     ensures { IfOk result (λ text. text ≡ text_by (containers_sent names.now)) }
 {
-    match containers_text(alloc, names)? {
+    match listing_text(alloc, names)? {
         Some(text) => json_listing_answer(alloc, text.as_slice()),
         None => refusal(alloc, 500),
     }
@@ -431,7 +431,7 @@ fn containers_answer(alloc: Global, names: &[Bytes]) -> Result<Bytes, Memory>
 fn names_answer(alloc: Global, items: &[NameItem]) -> Result<Bytes, Memory>
     ensures { IfOk result (λ text. text ≡ text_by (names_sent items.now)) }
 {
-    match items_text(alloc, items)? {
+    match listing_text(alloc, items)? {
         Some(text) => json_listing_answer(alloc, text.as_slice()),
         None => refusal(alloc, 500),
     }

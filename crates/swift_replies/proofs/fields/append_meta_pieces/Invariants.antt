@@ -1,5 +1,5 @@
 use Rattle.swift_replies.proofs.MetaLemmas.{HasRead}
-use Rattle.swift_replies.proofs.fields.meta_in.Given as goal
+use Rattle.swift_replies.proofs.fields.append_meta_pieces.Given as goal
 
 abbrev pub invariant-pieces : goal.invariant-pieces
 invariant-pieces l = HasRead l.headers l.pieces l.index
