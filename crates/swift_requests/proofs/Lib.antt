@@ -1,6 +1,7 @@
 pub mod AcceptLemmas
 pub mod CallLemmas
 pub mod HeaderLemmas
+pub mod ListingLemmas
 pub mod ManifestLemmas
 pub mod PathLemmas
 pub mod PlaceLemmas

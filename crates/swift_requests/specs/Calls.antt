@@ -30,7 +30,7 @@ use Rattle.swift_calls.specs.declared.calls.SwiftRequest.TheVariants.{
 use Rattle.swift_replies.specs.Answers.{both, segments_in}
 use Rattle.http_answers.specs.Fields.{field, only, plain_number}
 use Rattle.swift_replies.specs.Fields.{container_readers_by_value, container_created_in, meta_in}
-use Rattle.swift_requests.specs.Paths.{path_of, last_call_query_value, values_named}
+use Rattle.swift_requests.specs.Paths.{path_of, first_value, last_call_query_value, values_named}
 use Rattle.swift_requests.specs.Place.{HasToken}
 use Rattle.swift_replies.specs.declared.fault.WireFault.{WireFault}
 use Rattle.swift_replies.specs.declared.fault.WireFault.TheVariants.{NotACall, NotAnAnswer, Memory}
@@ -57,6 +57,20 @@ up_to most number = if nat_le number most then Some number else None
 -- how many names are asked for: 1000 at most
 abbrev pub limit_of : List ℕ → Option ℕ
 limit_of text = option_and_then (up_to 1000) (plain_number text)
+
+-- what follows `format=json&`
+abbrev pub behind_json : List ℕ → Option (List ℕ)
+behind_json query = option_and_then (λ format. if is_json format.0 then Some format.1 else None) (first_value (codes "format") query)
+
+-- how many names a query asks for that begins with `format=json&limit=N&`, and what follows
+unfoldable pub listing_limit : List ℕ → Option (ℕ × List ℕ)
+listing_limit query =
+    option_and_then (λ rest. option_and_then (λ limit. option_map (λ most. (most, limit.1)) (limit_of limit.0)) (first_value (codes "limit") rest)) (behind_json query)
+
+-- the values of `marker=M&prefix=P`
+abbrev pub marker_and_prefix : List ℕ → Option (List ℕ × List ℕ)
+marker_and_prefix text =
+    option_and_then (λ marker. option_map (λ prefix. (marker.0, prefix)) (last_call_query_value (codes "prefix") marker.1)) (first_value (codes "marker") text)
 
 abbrev pub containers_listing_call : List (List ℕ) → Option SwiftRequest
 containers_listing_call [] = None

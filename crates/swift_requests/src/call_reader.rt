@@ -14,7 +14,7 @@ use http_answers::only;
 use http_wire::Message;
 use slo_manifest::Form;
 use std::alloc::Global;
-use swift_calls::{ReadList, SwiftRequest, is_fit};
+use swift_calls::{ReadList, SwiftRequest, drop_request, is_fit};
 use swift_replies::{
     WireFault, container_created_in, container_readers_by_value, meta_in, spelled_segments_in,
 };
@@ -26,15 +26,14 @@ pub fn read_call(alloc: Global, place: &Place, message: Message) -> Result<Swift
     requires { IsPlace place.now }
     ensures { ReadsCall place.now message result }
 {
-    match call_of(alloc, place, message)? {
-        Some(call) => {
-            if is_fit(&call) {
-                Ok(call)
-            } else {
-                Err(WireFault::NotACall)
-            }
-        }
-        None => Err(WireFault::NotACall),
+    let Some(call) = call_of(alloc, place, message)? else {
+        return Err(WireFault::NotACall);
+    };
+    if is_fit(&call) {
+        Ok(call)
+    } else {
+        drop_request(call);
+        Err(WireFault::NotACall)
     }
 }
 

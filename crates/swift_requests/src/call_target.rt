@@ -1,7 +1,7 @@
 //! The target of a call that is written.
 ghost use Rattle.std.specs.Prelude.{◌≡◌, ◌++◌, OnOk, codes};
 ghost use Rattle.s3_names.specs.Escapes.{escaped_all, escaped_path};
-ghost use Rattle.swift_requests.specs.CallText.{account_text, container_text, object_text, listing_text, manifest_put, manifest_get, target_text};
+ghost use Rattle.swift_requests.specs.CallText.{account_text, container_text, object_text, listing_text, target_text};
 
 use crate::Place;
 use gate_base::{Bytes, Memory};
@@ -28,12 +28,7 @@ pub(crate) fn append_target(
             prefix,
             marker,
             limit,
-        } => {
-            append_container(alloc, text, place, container)?;
-            append_listing_query(alloc, text, *limit, marker.as_slice())?;
-            text.append(b"&prefix=")?;
-            append_escaped_to_target(alloc, text, prefix.as_slice())
-        }
+        } => append_container_listing_target(alloc, text, place, container, *limit, marker, prefix),
         SwiftRequest::HeadContainer { container }
         | SwiftRequest::PutContainer { container, .. }
         | SwiftRequest::PostContainer { container, .. }
@@ -44,13 +39,9 @@ pub(crate) fn append_target(
             container,
             name,
             ..
-        } => {
-            append_object_path(alloc, text, place, container, name)?;
-            text.append(b"?multipart-manifest=put")
-        }
+        } => append_manifest_target(alloc, text, place, container, name, b"put"),
         SwiftRequest::GetManifest { container, name } => {
-            append_object_path(alloc, text, place, container, name)?;
-            text.append(b"?multipart-manifest=get")
+            append_manifest_target(alloc, text, place, container, name, b"get")
         }
         SwiftRequest::PutObject {
             container,
@@ -90,6 +81,42 @@ fn append_account_listing_target(
 {
     append_account(alloc, text, place)?;
     append_listing_query(alloc, text, limit, marker)
+}
+
+/// Adds `/v1/ACCOUNT/CONTAINER?format=json&limit=N&marker=M&prefix=P`.
+fn append_container_listing_target(
+    alloc: Global,
+    text: &mut Bytes,
+    place: &Place,
+    container: &Bytes,
+    limit: u32,
+    marker: &Bytes,
+    prefix: &Bytes,
+) -> Result<(), Memory>
+    ensures { OnOk result (text.new ≡ text.old ++ container_text place.now container.now
+        ++ listing_text limit marker.now ++ codes "&prefix=" ++ escaped_all prefix.now) }
+{
+    append_container(alloc, text, place, container)?;
+    append_listing_query(alloc, text, limit, marker.as_slice())?;
+    text.append(b"&prefix=")?;
+    append_escaped_to_target(alloc, text, prefix.as_slice())
+}
+
+/// Adds `/v1/ACCOUNT/CONTAINER/NAME?multipart-manifest=WORD`.
+fn append_manifest_target(
+    alloc: Global,
+    text: &mut Bytes,
+    place: &Place,
+    container: &Bytes,
+    name: &Bytes,
+    word: &[u8],
+) -> Result<(), Memory>
+    ensures { OnOk result (text.new ≡ text.old ++ object_text place.now container.now name.now
+        ++ codes "?multipart-manifest=" ++ word.now) }
+{
+    append_object_path(alloc, text, place, container, name)?;
+    text.append(b"?multipart-manifest=")?;
+    text.append(word)
 }
 
 /// Adds `/v1/ACCOUNT/CONTAINER`.

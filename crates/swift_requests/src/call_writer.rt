@@ -1,6 +1,7 @@
 //! Calls written.
 ghost use Rattle.std.specs.Prelude.{◌≡◌, ◌++◌, IfOk, OnOk, length};
 ghost use Rattle.http1.specs.Head.{print_header, print_headers};
+ghost use Rattle.httparse.specs.Ascii.{crlf_bytes};
 ghost use Rattle.swift_calls.specs.Step.{Fit};
 ghost use Rattle.swift_requests.specs.Place.{IsPlace};
 ghost use Rattle.swift_requests.specs.Calls.{SpellsRequest};
@@ -25,7 +26,7 @@ const HEAD_ROOM: usize = 1024;
 
 /// The request of a call, in two pieces: its head, and what was made to stand behind it. The bytes of an object that is put aren't
 /// made, they are the call's own.
-#[derive(Debug, Drop)]
+#[derive(Drop)]
 pub struct WrittenCall {
     pub head: Bytes,
     pub made: Bytes,
@@ -85,11 +86,26 @@ fn write_call_with_body(
         (written.head ++ body_with call.now written.made)) }
 {
     law_call_reads_back();
+    let head = written_call_head(alloc, place, call, size)?;
+    Ok(WrittenCall { head, made })
+}
+
+/// The request line, the header fields of a call whose body has so many bytes, and an empty line.
+fn written_call_head(
+    alloc: Global,
+    place: &Place,
+    call: &SwiftRequest,
+    size: usize,
+) -> Result<Bytes, Memory>
+    requires { size ≡ length (body_of call.now) }
+    ensures { IfOk result (λ head. head ≡ (line_text place.now call.now
+        ++ print_headers (call_fields place.now call.now)) ++ crlf_bytes) }
+{
     let mut head = Bytes::with_room(alloc, HEAD_ROOM)?;
     append_request_line(alloc, &mut head, place, call)?;
     append_call_fields(&mut head, place, call, size)?;
     head.append(b"\r\n")?;
-    Ok(WrittenCall { head, made })
+    Ok(head)
 }
 
 fn method_text(call: &SwiftRequest) -> &'static [u8]

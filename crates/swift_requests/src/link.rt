@@ -9,7 +9,7 @@ use crate::Place;
 use gate_base::{Bytes, Counted, Failed, Memory};
 
 /// Why an exchange gave no answer.
-#[derive(Clone, Copy, Debug, PartialEq, Eq)]
+#[derive(Clone, Copy)]
 pub enum LinkFault {
     /// The request or its answer was lost, or what came is no whole answer.
     Failed,

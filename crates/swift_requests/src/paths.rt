@@ -8,7 +8,7 @@ use s3_names::{NameFault, decode};
 use std::alloc::Global;
 
 /// What the path of a target names, by the parts as they are read: an account; its container; an object in that.
-#[derive(Debug, Drop)]
+#[derive(Drop)]
 pub enum Path {
     Account(Bytes),
     Container(Bytes, Bytes),

@@ -10,7 +10,7 @@ use http_wire::Message;
 
 /// An account of a store: the host as `Host` names it, the name of the account, and the token that lets one ask for it
 /// (`X-Auth-Token`). Each has 1 to 1024 bytes of visible ASCII; what takes a place asks for this.
-#[derive(Debug, Drop)]
+#[derive(Drop)]
 pub struct Place {
     pub host: Bytes,
     pub account: Bytes,
