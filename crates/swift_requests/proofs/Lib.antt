@@ -6,6 +6,7 @@ pub mod ManifestLemmas
 pub mod PathLemmas
 pub mod PlaceLemmas
 pub mod QueryLemmas
+pub mod ReadingLemmas
 pub mod SizeLemmas
 pub mod SpellLemmas
 pub mod TextLemmas

@@ -158,6 +158,18 @@ container_call container message =
     if has_call_method (codes "GET") message then option_and_then (names_listing_call container) (values_named container_names (query_text message.target))
     else unasked message (container_call_by_method container message)
 
+-- the type and the metadata that a PUT of an object gives
+unfoldable pub put_content : List Pair → Option (List ℕ × List (List ℕ))
+put_content headers = both (λ content_type meta. (content_type, meta)) (only (codes "content-type") headers) (meta_in headers)
+
+-- the same where there is no query
+unfoldable pub plain_content : Message → Option (List ℕ × List (List ℕ))
+plain_content message = if bytes_eq (query_text message.target) [] then put_content message.headers else None
+
+-- the same with the segments that the body lists
+unfoldable pub manifest_content : Message → Option ((List ℕ × List (List ℕ)) × List Segment)
+manifest_content message = option_and_then (λ content. option_map (λ segments. (content, segments)) (segments_in Put message.body)) (put_content message.headers)
+
 -- PUT of an object
 abbrev pub put_object : List ℕ → List ℕ → Message → Option SwiftRequest
 put_object container name message =
@@ -227,6 +239,14 @@ call_at (Object account container name) message = object_call container name mes
 abbrev pub call_within : Place → Message → Option Path → Option SwiftRequest
 call_within place message None = None
 call_within place message (Some path) = if bytes_eq (account_in path) place.account then call_at path message else None
+
+abbrev pub path_within : Place → Option Path → Option Path
+path_within place None = None
+path_within place (Some path) = if bytes_eq (account_in path) place.account then Some path else None
+
+-- what the path of a target names, where that is of the place's account
+unfoldable pub path_at : Place → List ℕ → Option Path
+path_at place target = path_within place (path_of target)
 
 -- the call that a message makes of the place's account, within its limits or not
 abbrev pub call_of : Place → Message → Option SwiftRequest

@@ -3,16 +3,16 @@ ghost use Rattle.std.specs.Prelude.{◌≡◌, [], not, IfOk, bytes_eq};
 ghost use Rattle.http_wire.specs.declared.message.Message.{Message};
 ghost use Rattle.s3_names.specs.Target.{query_text};
 ghost use Rattle.swift_requests.specs.Place.{IsPlace};
-ghost use Rattle.swift_requests.specs.Calls.{account_in, has_call_method, unasked, bodiless, account_call, put_container, post_container, container_call_by_method, container_call, readers_given, put_object, put_listed, put_manifest, put_call, is_word, asks_manifest, asks_segments, bare_object_call, small_object_call, object_call, call_at, call_of, ReadsCall};
+ghost use Rattle.swift_requests.specs.Calls.{ReadsCall, account_call, account_in, asks_manifest, asks_segments, bare_object_call, bodiless, call_at, call_of, container_call, container_call_by_method, has_call_method, is_word, manifest_content, object_call, path_at, plain_content, post_container, put_call, put_container, put_content, put_manifest, put_object, readers_given, small_object_call, unasked};
 
 use crate::Place;
 use crate::listings::{containers_listing_call, last_call_query_value, names_listing_call};
 use crate::paths::{Path, account_in, read_call_path};
 use crate::ranges::call_range_in;
-use gate_base::{Bytes, Memory, Pair, cut};
+use gate_base::{Bytes, List, Memory, Pair, cut};
 use http_answers::only;
 use http_wire::Message;
-use slo_manifest::Form;
+use slo_manifest::{Form, Segment};
 use std::alloc::Global;
 use swift_calls::{ReadList, SwiftRequest, drop_request, is_fit};
 use swift_replies::{
@@ -38,18 +38,28 @@ pub fn read_call(alloc: Global, place: &Place, message: Message) -> Result<Swift
 }
 
 /// The call that a message makes of the place's account, within its limits or not.
+#[tactic(auto, using(crate::proofs::ReadingLemmas::none_at))]
 fn call_of(alloc: Global, place: &Place, message: Message) -> Result<Option<SwiftRequest>, Memory>
     ensures { IfOk result (λ call. call ≡ call_of place.now message) }
 {
-    match read_call_path(alloc, message.target.as_slice())? {
-        Some(path) => {
-            if account_in(&path) == place.account.as_slice() {
-                call_at(alloc, path, message)
-            } else {
-                Ok(None)
-            }
-        }
+    match path_at(alloc, place, message.target.as_slice())? {
+        Some(path) => call_at(alloc, path, message),
         None => Ok(None),
+    }
+}
+
+/// What the path of a target names, where that is of the place's account.
+#[tactic(auto, unfolding(crate::specs::Calls::path_at))]
+fn path_at(alloc: Global, place: &Place, target: &[u8]) -> Result<Option<Path>, Memory>
+    ensures { IfOk result (λ path. path ≡ path_at place.now target.now) }
+{
+    let Some(path) = read_call_path(alloc, target)? else {
+        return Ok(None);
+    };
+    if account_in(&path) == place.account.as_slice() {
+        Ok(Some(path))
+    } else {
+        Ok(None)
     }
 }
 
@@ -241,13 +251,11 @@ fn put_call(
     if asks_manifest(alloc, &message, b"put")? {
         return put_manifest(alloc, container, name, &message);
     }
-    if has_call_query(&message) {
-        return Ok(None);
-    }
-    put_object(alloc, container, name, message)
+    put_plain_object(alloc, container, name, message)
 }
 
 /// PUT of an object that lists segments.
+#[tactic(auto, using(crate::proofs::ReadingLemmas::manifest_given, crate::proofs::ReadingLemmas::manifest_none))]
 fn put_manifest(
     alloc: Global,
     container: Bytes,
@@ -256,16 +264,8 @@ fn put_manifest(
 ) -> Result<Option<SwiftRequest>, Memory>
     ensures { IfOk result (λ call. call ≡ put_manifest container name message.now) }
 {
-    let headers = message.headers.as_slice();
-    let Some(content_type) = only(headers, b"content-type") else {
-        return Ok(None);
-    };
-    let content_type = Bytes::from_slice(alloc, content_type)?;
-    let Some(meta) = meta_in(alloc, headers)? else {
-        return Ok(None);
-    };
-    match spelled_segments_in(alloc, message.body.as_slice(), Form::Put)? {
-        Some(segments) => Ok(Some(SwiftRequest::PutManifest {
+    match manifest_content(alloc, message)? {
+        Some(((content_type, meta), segments)) => Ok(Some(SwiftRequest::PutManifest {
             container,
             name,
             content_type,
@@ -276,30 +276,71 @@ fn put_manifest(
     }
 }
 
-/// PUT of an object. The body isn't copied.
-fn put_object(
+/// PUT of an object that lists none, which has no query. The body isn't copied.
+#[tactic(auto, using(crate::proofs::ReadingLemmas::object_given, crate::proofs::ReadingLemmas::object_none))]
+fn put_plain_object(
     alloc: Global,
     container: Bytes,
     name: Bytes,
     message: Message,
 ) -> Result<Option<SwiftRequest>, Memory>
-    ensures { IfOk result (λ call. call ≡ put_object container name message) }
+    ensures { IfOk result
+        (λ call. call ≡ unasked message (put_object container name message)) }
 {
-    let headers = message.headers.as_slice();
+    match plain_content(alloc, &message)? {
+        Some((content_type, meta)) => Ok(Some(SwiftRequest::PutObject {
+            container,
+            name,
+            content_type,
+            meta,
+            body: message.body,
+        })),
+        None => Ok(None),
+    }
+}
+
+/// The type and the metadata of an object that is put, and the segments that it lists.
+#[tactic(auto, unfolding(crate::specs::Calls::manifest_content))]
+fn manifest_content(
+    alloc: Global,
+    message: &Message,
+) -> Result<Option<((Bytes, List<Bytes>), List<Segment>)>, Memory>
+    ensures { IfOk result (λ content. content ≡ manifest_content message.now) }
+{
+    let Some(content) = put_content(alloc, message.headers.as_slice())? else {
+        return Ok(None);
+    };
+    match spelled_segments_in(alloc, message.body.as_slice(), Form::Put)? {
+        Some(segments) => Ok(Some((content, segments))),
+        None => Ok(None),
+    }
+}
+
+/// The type and the metadata of an object that is put, where there is no query.
+#[tactic(auto, unfolding(crate::specs::Calls::plain_content))]
+fn plain_content(alloc: Global, message: &Message) -> Result<Option<(Bytes, List<Bytes>)>, Memory>
+    ensures { IfOk result (λ content. content ≡ plain_content message.now) }
+{
+    if has_call_query(message) {
+        Ok(None)
+    } else {
+        put_content(alloc, message.headers.as_slice())
+    }
+}
+
+/// The type and the metadata that a PUT of an object gives.
+#[tactic(auto, unfolding(crate::specs::Calls::put_content))]
+fn put_content(alloc: Global, headers: &[Pair]) -> Result<Option<(Bytes, List<Bytes>)>, Memory>
+    ensures { IfOk result (λ content. content ≡ put_content headers.now) }
+{
     let Some(content_type) = only(headers, b"content-type") else {
         return Ok(None);
     };
     let content_type = Bytes::from_slice(alloc, content_type)?;
-    let Some(meta) = meta_in(alloc, headers)? else {
-        return Ok(None);
-    };
-    Ok(Some(SwiftRequest::PutObject {
-        container,
-        name,
-        content_type,
-        meta,
-        body: message.body,
-    }))
+    match meta_in(alloc, headers)? {
+        Some(meta) => Ok(Some((content_type, meta))),
+        None => Ok(None),
+    }
 }
 
 fn has_call_method(message: &Message, name: &[u8]) -> bool
