@@ -1,5 +1,5 @@
 -- An account as it is declared, by lists. Source: this profile.
-use Rattle.std.specs.Prelude.{ℕ, ◌^◌, Bool, ◌&&◌, List, map, nat_lt, IsTrue}
+use Rattle.std.specs.Prelude.{◌^◌, Bool, ◌&&◌, map, nat_lt, IsTrue}
 use Rattle.std.specs.List.{list_all}
 use Rattle.gate_base.specs.Named.{map_of, ascends}
 use Rattle.swift_calls.specs.Account.{SwiftContainer, SwiftAccount, file_of, size_of}

@@ -6,8 +6,7 @@ ghost use Rattle.gate_base.specs.Named.{has_name, named, changed};
 ghost use Rattle.swift_calls.specs.Account.{file_of};
 ghost use Rattle.planned_swift.specs.Accounts.{tree_of, IsOrdered, IsSized};
 ghost use Rattle.swift_calls.specs.Step.{swift_step, put_object, manifest_by};
-ghost use Rattle.swift_calls.specs.Bodies.{listed_in};
-ghost use Rattle.swift_calls.specs.declared.account.Content.TheVariants.{Plain, Segments};
+ghost use Rattle.swift_calls.specs.Bodies.{etag_of, listed_in};
 ghost use Rattle.planned_swift.specs.Lists.{served, name_of, object_name, is_nil, without, with_object, listed, AreOrdered, AreSized};
 
 use crate::listable::is_good_list;
@@ -15,7 +14,7 @@ use crate::listing::{list_containers_in_account, list_objects_in_account};
 use crate::objects::{etag_of, head_of, item_in_account, object_in_account};
 use crate::segments::read_object_in_account;
 use crate::{Account, Container};
-use gate_base::{Bytes, Copying, List, Memory, Named};
+use gate_base::{Bytes, Copying, List, Memory, Named, drop};
 use slo_manifest::Segment;
 use std::alloc::Global;
 use std::mem;
@@ -200,34 +199,81 @@ fn serve_put_object(
 {
     match containers.find(container) {
         Some(index) => {
-            let etag = etag_of(alloc, &object.content)?;
-            containers.at_mut(index).objects.put(object)?;
-            Ok(SwiftReply::Stored { etag })
+            let reply = put_object_in_container(alloc, containers.at_mut(index), object)?;
+            Ok(reply)
         }
-        None => Ok(SwiftReply::NotFound),
+        None => {
+            drop(object);
+            Ok(SwiftReply::NotFound)
+        }
     }
 }
 
-/// An object that lists these segments.
-fn list_object_for_account(
+fn put_object_in_container(
+    alloc: Global,
+    container: &mut Container,
+    object: Stored,
+) -> Result<SwiftReply, Memory>
+    ensures reply { IfOk result (λ reply. reply ≡ SwiftReply.Stored (etag_of object.content)) }
+    ensures effect { OnOk result (container.new ≡ with_object object container.old) }
+    ensures err { OnErr result (container.new ≡ container.old) }
+{
+    let etag = etag_of(alloc, &object.content)?;
+    container.objects.put(object)?;
+    Ok(SwiftReply::Stored { etag })
+}
+
+/// An object with this content, whose other texts are copied.
+fn object_for_account(
     name: &Bytes,
     content_type: &Bytes,
     meta: &List<Bytes>,
-    segments: &List<Segment>,
+    content: Content,
 ) -> Result<Stored, Memory>
     ensures { IfOk result (λ object. object ≡ record {
       name = name.now;
       content_type = content_type.now;
       meta = meta.now;
-      content = Segments segments.now;
+      content = content;
     }) }
 {
+    let (name, content_type) = copied_texts(name, content_type)?;
     Ok(Stored {
-        name: name.copy()?,
-        content_type: content_type.copy()?,
+        name,
+        content_type,
         meta: meta.copy()?,
-        content: Content::Segments(segments.copy()?),
+        content,
     })
+}
+
+fn copied_texts(first: &Bytes, second: &Bytes) -> Result<(Bytes, Bytes), Memory>
+    ensures { IfOk result (λ copies. copies ≡ record { 0 = first.now; 1 = second.now }) }
+{
+    let first = first.copy()?;
+    Ok((first, second.copy()?))
+}
+
+/// Puts an object with these bytes into a container that is there. Where memory runs out, nothing changes.
+fn serve_put_plain_object(
+    alloc: Global,
+    containers: &mut List<Container>,
+    container: &[u8],
+    name: &Bytes,
+    content_type: &Bytes,
+    meta: &List<Bytes>,
+    body: &Bytes,
+) -> Result<SwiftReply, Memory>
+    ensures reply { IfOk result (λ reply. reply ≡ (swift_step
+        (SwiftRequest.PutObject container.now name.now content_type.now meta.now body.now)
+        (tree_of (listed containers.old))).reply) }
+    ensures effect { OnOk result (containers.new ≡ (served
+        (SwiftRequest.PutObject container.now name.now content_type.now meta.now body.now)
+        (listed containers.old)).containers) }
+    ensures err { OnErr result (containers.new ≡ containers.old) }
+{
+    let content = Content::Plain(body.copy()?);
+    let object = object_for_account(name, content_type, meta, content)?;
+    serve_put_object(alloc, containers, container, object)
 }
 
 /// Puts an object that lists these segments into a container that is there. Where memory runs out, nothing changes.
@@ -255,7 +301,8 @@ fn serve_put_manifest(
             if !is_good_list(alloc, containers, segments.as_slice())? {
                 return Ok(SwiftReply::BadManifest);
             }
-            let object = list_object_for_account(name, content_type, meta, segments)?;
+            let content = Content::Segments(segments.copy()?);
+            let object = object_for_account(name, content_type, meta, content)?;
             serve_put_object(alloc, containers, container, object)
         }
         None => Ok(SwiftReply::NotFound),
@@ -363,28 +410,6 @@ fn serve_delete_object(
     }
 }
 
-/// An object with these bytes of its own.
-fn plain_object_for_account(
-    name: &Bytes,
-    content_type: &Bytes,
-    meta: &List<Bytes>,
-    body: &Bytes,
-) -> Result<Stored, Memory>
-    ensures { IfOk result (λ object. object ≡ record {
-      name = name.now;
-      content_type = content_type.now;
-      meta = meta.now;
-      content = Plain body.now;
-    }) }
-{
-    Ok(Stored {
-        name: name.copy()?,
-        content_type: content_type.copy()?,
-        meta: meta.copy()?,
-        content: Content::Plain(body.copy()?),
-    })
-}
-
 /// Makes a call on an account. Where memory runs out, nothing changes.
 pub(crate) fn serve(
     alloc: Global,
@@ -440,10 +465,15 @@ pub(crate) fn serve(
             content_type,
             meta,
             body,
-        } => {
-            let object = plain_object_for_account(name, content_type, meta, body)?;
-            serve_put_object(alloc, containers, container.as_slice(), object)
-        }
+        } => serve_put_plain_object(
+            alloc,
+            containers,
+            container.as_slice(),
+            name,
+            content_type,
+            meta,
+            body,
+        ),
         SwiftRequest::PutManifest {
             container,
             name,
