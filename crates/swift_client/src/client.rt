@@ -1,10 +1,12 @@
 //! A store over a link.
-ghost use Rattle.std.specs.Prelude.{◌≡◌, ◌+◌, ◌++◌, IsTrue, IsErrOf};
+ghost use Rattle.std.specs.Prelude.{◌≡◌, ◌+◌, ◌<◌, ◌++◌, IsTrue, IsErrOf};
 ghost use Rattle.std.proofs.Common.{sym, ap, ◌∙◌};
 ghost use Rattle.std.proofs.Math.Nat.{add-zero};
 ghost use Rattle.std.proofs.lemmas.Bool.{and_parts, eqb-true};
-ghost use Rattle.swift_calls.specs.History.{CountsFaults};
+ghost use Rattle.swift_calls.specs.History.{Calls, CountsFaults, budget};
 ghost use Rattle.swift_calls.specs.Step.{Fit};
+ghost use Rattle.swift_requests.specs.Calls.{SpellsRequest};
+ghost use Rattle.swift_requests.specs.CallText.{body_with};
 ghost use Rattle.swift_requests.specs.Place.{IsPlace};
 ghost use Rattle.swift_client.specs.Client.{history_over, ReadsAs};
 
@@ -13,7 +15,7 @@ use std::alloc::Global;
 use std::mem::replace;
 use swift_calls::{Swift, SwiftFault, SwiftReply, SwiftRequest};
 use swift_replies::{WireFault, read_parted_answer};
-use swift_requests::{Link, LinkFault, Place, write_call};
+use swift_requests::{Link, LinkFault, Place, WrittenCall, write_call};
 use wire_log::{Cause, Explains, logged_cause_of_answer};
 
 /// A Swift store over a link. Each call is one exchange, so its calls are those of the link.
@@ -61,6 +63,31 @@ impl<L: Link> SwiftClient<L> {
         ensures { result.now ≡ self.now.unread }
     {
         self.unread.as_slice()
+    }
+
+    /// The exchange of a call that was written, where one is left.
+    fn exchange_written(
+        &mut self,
+        request: &SwiftRequest,
+        written: &WrittenCall,
+    ) -> Result<SwiftReply, SwiftFault>
+        requires left { L.Counted.called self.old.link < budget }
+        requires fit { Fit request.now }
+        requires spells { SpellsRequest self.old.place request.now
+            (written.now.head ++ body_with request.now written.now.made) }
+        ensures { Calls (⟦<SwiftClient<L> as Swift>⟧.history self.old)
+            (⟦<SwiftClient<L> as Swift>⟧.history self.new) request.now result }
+    {
+        match self.link.exchange(
+            written.head.as_slice(),
+            written.body(request),
+            &mut self.front,
+            &mut self.rest,
+        ) {
+            Ok(()) => self.read(request),
+            Err(LinkFault::Failed) => Err(SwiftFault::Failed),
+            Err(LinkFault::Memory) => Err(SwiftFault::Memory),
+        }
     }
 
     /// What the answer that came says. Of one that spells nothing the first piece is kept.
@@ -113,16 +140,7 @@ impl<L: Link> Swift for SwiftClient<L> {
             return Err(SwiftFault::Failed);
         }
         let written = write_call(self.alloc, &self.place, request)?;
-        match self.link.exchange(
-            written.head.as_slice(),
-            written.body(request),
-            &mut self.front,
-            &mut self.rest,
-        ) {
-            Ok(()) => self.read(request),
-            Err(LinkFault::Failed) => Err(SwiftFault::Failed),
-            Err(LinkFault::Memory) => Err(SwiftFault::Memory),
-        }
+        self.exchange_written(request, &written)
     }
 }
 

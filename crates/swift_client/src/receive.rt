@@ -139,13 +139,22 @@ fn receive_body<S: Read>(
     size: &Size,
 ) -> io::Result<Vec<u8>> {
     let mut body = Vec::new(alloc);
+    append_body(stream, front, size, &mut body)?;
+    Ok(body)
+}
+
+fn append_body<S: Read>(
+    stream: &mut S,
+    front: &mut Vec<u8>,
+    size: &Size,
+    body: &mut Vec<u8>,
+) -> io::Result<()> {
     if size.body > 0 {
         body.reserve(size.body.saturating_add(1).min(AHEAD))?;
     }
     body.extend_from_slice(&front[size.head.min(front.len())..])?;
     front.truncate(size.head);
-    receive_rest(stream, &mut body, size.body)?;
-    Ok(body)
+    receive_rest(stream, body, size.body)
 }
 
 /// Reads on until the body has `size` bytes. One more is asked for, so that bytes behind it are found out.

@@ -8,7 +8,7 @@ use crate::receive::receive;
 use gate_base::{Bytes, Counted};
 use std::alloc::Global;
 use std::io;
-use std::io::{ErrorKind, Write};
+use std::io::{ErrorKind, Read, Write};
 use std::net::{HostAddrs, Net, OpenStream, ToSocketAddrs};
 use std::time::Duration;
 use swift_requests::{Link, LinkFault};
@@ -91,14 +91,17 @@ impl<R: Net + Drop> TcpLink<R> {
         let Ok(address) = str::from_utf8(self.address.as_slice()) else {
             return Err(io::Error::from(ErrorKind::InvalidInput));
         };
+        let places = self.look_up(address)?;
+        self.connect_to(places)
+    }
+
+    /// A connection to the first of the places that takes one.
+    fn connect_to(&self, places: HostAddrs) -> io::Result<R::Stream> {
         let limit = Duration::from_secs(self.limit);
         let mut last = io::Error::from(ErrorKind::NotFound);
-        for place in self.look_up(address)? {
+        for place in places {
             match self.rt.connect_timeout(place, limit) {
-                Ok(stream) => {
-                    set_link_time_limits::<R>(&stream, self.limit)?;
-                    return Ok(stream);
-                }
+                Ok(stream) => return with_link_time_limits::<R>(stream, self.limit),
                 Err(error) => last = error,
             }
         }
@@ -139,11 +142,7 @@ impl<R: Net + Drop> TcpLink<R> {
         ensures { self.new ≡ record self.old { stream = self.new.stream; fresh = self.new.fresh } }
     {
         let mut stream = self.take_ready_stream()?;
-        send_link_request(self.alloc, &mut stream, head, body)?;
-        let answer = receive(self.alloc, &mut stream, head.starts_with(b"HEAD "))?;
-        *front = answer.head;
-        *rest = answer.body;
-        if answer.stays {
+        if send_and_receive(self.alloc, &mut stream, head, body, front, rest)? {
             self.stream = Some(stream);
         }
         Ok(())
@@ -199,6 +198,22 @@ impl<R: Net> Explains for TcpLink<R> {
     }
 }
 
+/// One exchange over a stream. True where the stream may serve another.
+fn send_and_receive<S: Read + Write>(
+    alloc: Global,
+    stream: &mut S,
+    head: &[u8],
+    body: &[u8],
+    front: &mut Bytes,
+    rest: &mut Bytes,
+) -> io::Result<bool> {
+    send_link_request(alloc, stream, head, body)?;
+    let answer = receive(alloc, stream, head.starts_with(b"HEAD "))?;
+    *front = answer.head;
+    *rest = answer.body;
+    Ok(answer.stays)
+}
+
 /// Sends a request. A store that refuses a small one by its head alone, and closes, has both pieces then, so the refusal can still be
 /// read; a longer body is written from where it stands.
 fn send_link_request<S: Write>(
@@ -212,10 +227,15 @@ fn send_link_request<S: Write>(
         return stream.write_all(body);
     }
     let mut request = Vec::new(alloc);
+    append_pieces(&mut request, head, body)?;
+    stream.write_all(request.as_slice())
+}
+
+fn append_pieces(request: &mut Vec<u8>, head: &[u8], body: &[u8]) -> io::Result<()> {
     request.reserve(head.len().saturating_add(body.len()))?;
     request.extend_from_slice(head)?;
     request.extend_from_slice(body)?;
-    stream.write_all(request.as_slice())
+    Ok(())
 }
 
 /// Why an exchange failed with that error, under a limit of time of so many seconds. A read or a write past it is `WouldBlock`, and
@@ -242,6 +262,12 @@ fn set_link_time_limits<R: Net>(stream: &R::Stream, limit: u64) -> io::Result<()
     stream.set_nodelay(true)?;
     stream.set_read_timeout(limit)?;
     stream.set_write_timeout(limit)
+}
+
+/// The stream with these limits.
+fn with_link_time_limits<R: Net>(stream: R::Stream, limit: u64) -> io::Result<R::Stream> {
+    set_link_time_limits::<R>(&stream, limit)?;
+    Ok(stream)
 }
 
 /// Whether the stream may serve another exchange: it is open, and nothing came since the last answer.
