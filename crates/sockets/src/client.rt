@@ -4,6 +4,7 @@ ghost use Rattle.std.specs.Prelude.{◌≤◌, length, IfOk};
 use crate::came::Came;
 use crate::front::{Front, HEAD_LIMIT, begins_no_head, find_front};
 use std::alloc::{AllocError, Global};
+use std::collections::VecDeque;
 use std::io;
 use std::io::{ErrorKind, Read, Write};
 use std::net::{OpenStream, Shutdown, SocketAddr};
@@ -24,7 +25,7 @@ const ASKING: &[u8] = b"HTTP/1.1 100 Continue\r\n\r\n";
 /// How an interim reply begins. The reply itself is still to come.
 const INTERIM: &[u8] = b"HTTP/1.1 1";
 
-#[derive(Clone, Copy, Debug, PartialEq, Eq)]
+#[derive(Clone, Copy, PartialEq, Eq)]
 pub(crate) enum Phase {
     /// It waits for a turn: nothing of a request was given yet.
     Waits,
@@ -97,7 +98,7 @@ pub(crate) struct Client<S> {
     /// When it last sent anything, when it last took anything or began to be sent anything, and when its request began.
     heard: Duration,
     took: Duration,
-    pub(crate) began: Duration,
+    began: Duration,
     /// The number of its turn among those that are ready, 0 where it has none, and whether it stands in the queue of those to be attended.
     pub(crate) turn: u64,
     pub(crate) stirred: bool,
@@ -160,14 +161,22 @@ impl<S: Read + Write + OpenStream + Drop> Client<S> {
         }
     }
 
-    /// Whether it is silent between two requests.
-    pub(crate) fn is_idle(&self) -> bool {
-        self.phase == Phase::Waits && self.came.is_empty() && self.unsent.is_empty()
+    /// Since when it has been silent between two requests, if it is.
+    pub(crate) fn idle_since(&self) -> Option<Duration> {
+        if self.phase == Phase::Waits && self.came.is_empty() && self.unsent.is_empty() {
+            Some(self.last())
+        } else {
+            None
+        }
     }
 
-    /// Whether the request at its front is known, and a part of it is there.
-    pub(crate) fn is_part(&self) -> bool {
-        self.phase == Phase::Waits && self.size != 0 && !self.ready
+    /// Since when its request has come, if that is known and a part of it is there.
+    pub(crate) fn part_since(&self) -> Option<Duration> {
+        if self.phase == Phase::Waits && self.size != 0 && !self.ready {
+            Some(self.began)
+        } else {
+            None
+        }
     }
 
     /// Whether it can be given now. While bytes are kept for it, it can't: its replies stay in order, and are not more than one.
@@ -179,6 +188,14 @@ impl<S: Read + Write + OpenStream + Drop> Client<S> {
     pub(crate) fn mark(&mut self, readable: bool, writable: bool) {
         self.readable = self.readable || readable;
         self.writable = self.writable || writable;
+    }
+
+    /// Puts it into the queue of those to be attended, by its place, where it doesn't stand there. False without memory for that.
+    pub(crate) fn stir(&mut self, place: usize, queue: &mut VecDeque<usize>) -> bool {
+        if !self.stirred {
+            self.stirred = queue.push_back(place).is_ok();
+        }
+        self.stirred
     }
 
     /// Sends what is kept, and reads ahead or drops what comes. `full` says that there is no room to read ahead.

@@ -4,10 +4,11 @@ ghost use Rattle.std.specs.Prelude.{◌≤◌, length, IfOk};
 use crate::client::{After, Client, Lack};
 use crate::places::Places;
 use crate::watch::{LISTENER, Watch};
+use mio::event::Event;
 use std::alloc::Global;
 use std::collections::VecDeque;
 use std::io;
-use std::io::ErrorKind;
+use std::io::{ErrorKind, Read, Write};
 use std::net::{Net, OpenListener, OpenStream, SocketAddr};
 use std::os::fd::AsRawFd;
 use std::time::{Clock, Duration};
@@ -103,17 +104,18 @@ impl<R: Net + Clock + Drop> Crowd<R> {
     /// Waits until a client has a request, which is then served. The one that is served now ends.
     pub(crate) fn next(&mut self) -> io::Result<()> {
         self.end();
-        self.look(Duration::ZERO)?;
+        let mut wait = Duration::ZERO;
         for _wait in 0..u64::MAX {
+            self.look(wait)?;
             if let Some(place) = self.choose() {
                 self.begin(place);
                 return Ok(());
             }
             if self.losses >= LOSSES {
                 self.losses = 0;
-                return Err(io::Error::from(ErrorKind::Other));
+                break;
             }
-            self.look(Duration::MAX)?;
+            wait = Duration::MAX;
         }
         Err(io::Error::from(ErrorKind::Other))
     }
@@ -404,14 +406,11 @@ impl<R: Net + Clock + Drop> Crowd<R> {
     fn mark(&mut self) {
         for event in self.watch.events.iter() {
             let place = event.token().0;
-            let failed = event.is_error() || event.is_read_closed();
             if place == LISTENER {
                 self.waiting = true;
             } else if let Some(client) = self.places.get_mut(place) {
-                client.mark(event.is_readable() || failed, event.is_writable() || failed);
-                if !client.stirred && self.stirred.push_back(place).is_ok() {
-                    client.stirred = true;
-                }
+                mark_client(client, event);
+                let _ = client.stir(place, &mut self.stirred);
             }
         }
     }
@@ -489,12 +488,8 @@ impl<R: Net + Clock + Drop> Crowd<R> {
     /// It is attended in the next look, or without memory for that in the next look at all.
     fn stir(&mut self, place: usize) {
         if let Some(client) = self.places.get_mut(place) {
-            if !client.stirred {
-                client.stirred = true;
-                if self.stirred.push_back(place).is_err() {
-                    client.stirred = false;
-                    self.due = self.now;
-                }
+            if !client.stir(place, &mut self.stirred) {
+                self.due = self.now;
             }
         }
     }
@@ -531,7 +526,7 @@ impl<R: Net + Clock + Drop> Crowd<R> {
             match self.listener.accept() {
                 Ok((stream, peer)) => {
                     self.losses = 0;
-                    let _ = self.welcome(stream, peer);
+                    self.welcome(stream, peer);
                 }
                 Err(error) => {
                     if self.stops(error.kind()) {
@@ -593,20 +588,28 @@ impl<R: Net + Clock + Drop> Crowd<R> {
     }
 
     /// A client that can't be watched is lost.
-    fn welcome(&mut self, stream: R::Stream, peer: SocketAddr) -> io::Result<()> {
-        stream.set_nonblocking(true)?;
-        stream.set_nodelay(true)?;
+    fn welcome(&mut self, stream: R::Stream, peer: SocketAddr) {
+        if stream.set_nonblocking(true).is_err() || stream.set_nodelay(true).is_err() {
+            return;
+        }
+        let Ok(place) = self.places.take() else {
+            return;
+        };
         let source = stream.as_raw_fd();
-        let place = self.places.take()?;
         self.places.fill(
             place,
             Client::new(self.alloc, stream, peer, self.largest, self.now),
         );
-        if self.watch.add_stream(source, place).is_err() {
+        if self.watch.add_stream(source, place).is_ok() {
+            self.stir(place);
+        } else {
             self.places.empty(place);
-            return Err(io::Error::from(ErrorKind::Other));
         }
-        self.stir(place);
-        Ok(())
     }
+}
+
+/// Notes what the system reported of a client's stream. One that failed, or was closed, is tried both ways.
+fn mark_client<S: Read + Write + OpenStream + Drop>(client: &mut Client<S>, event: &Event) {
+    let failed = event.is_error() || event.is_read_closed();
+    client.mark(event.is_readable() || failed, event.is_writable() || failed);
 }

@@ -11,7 +11,7 @@ const DIGITS: usize = 10;
 const LINE_LIMIT: usize = 4_096;
 
 /// What stands at the front of bytes.
-#[derive(Clone, Copy, Debug, PartialEq, Eq)]
+#[derive(Clone, Copy)]
 pub(crate) enum Front {
     /// Its end isn't known yet.
     Part,
@@ -22,7 +22,7 @@ pub(crate) enum Front {
 }
 
 /// What the lines of a head have said so far.
-#[derive(Clone, Copy, Debug)]
+#[derive(Clone, Copy)]
 struct Said {
     body: Option<usize>,
     asks: bool,

@@ -9,6 +9,15 @@ use std::time::Duration;
 /// what the program holds itself, that is below the 1024 descriptors that a process usually has.
 pub(crate) const PLACES: usize = 900;
 
+/// Which clients are sought.
+#[derive(Clone, Copy)]
+enum Sought {
+    /// Those that are idle, but for the one at that place.
+    Idle { served: Option<usize> },
+    /// Those of whose request a part came.
+    Part,
+}
+
 #[derive(Drop)]
 pub(crate) struct Places<S> {
     slots: Vec<Option<Client<S>>>,
@@ -78,12 +87,22 @@ impl<S: Read + Write + OpenStream + Drop> Places<S> {
     /// The place of the client that has been idle for the longest time, and since that moment at least. The one at the place `served`
     /// isn't asked: it may be idle too, and stays.
     pub(crate) fn idlest(&self, moment: Duration, served: Option<usize>) -> Option<usize> {
+        self.longest(Sought::Idle { served }, moment)
+    }
+
+    /// The place of the client that has been sending the same request for the longest time.
+    pub(crate) fn oldest_part(&self, now: Duration) -> Option<usize> {
+        self.longest(Sought::Part, now)
+    }
+
+    /// The place of the client that is sought and has been so for the longest time, and since that moment at least; the last of them.
+    fn longest(&self, sought: Sought, moment: Duration) -> Option<usize> {
         let mut found = None;
         let mut since = moment;
-        for (place, slot) in self.slots.iter().enumerate() {
-            if let Some(client) = slot {
-                if client.is_idle() && client.last() <= since && served != Some(place) {
-                    since = client.last();
+        for place in 0..self.slots.len() {
+            if let Some(began) = self.sought_since(sought, place) {
+                if began <= since {
+                    since = began;
                     found = Some(place);
                 }
             }
@@ -91,18 +110,12 @@ impl<S: Read + Write + OpenStream + Drop> Places<S> {
         found
     }
 
-    /// The place of the client that has been sending the same request for the longest time.
-    pub(crate) fn oldest_part(&self, now: Duration) -> Option<usize> {
-        let mut found = None;
-        let mut since = now;
-        for (place, slot) in self.slots.iter().enumerate() {
-            if let Some(client) = slot {
-                if client.is_part() && client.began <= since {
-                    since = client.began;
-                    found = Some(place);
-                }
-            }
+    /// Since when the client there is one that is sought. None where it isn't, or nobody is there.
+    fn sought_since(&self, sought: Sought, place: usize) -> Option<Duration> {
+        match (self.get(place), sought) {
+            (Some(client), Sought::Part) => client.part_since(),
+            (Some(client), Sought::Idle { served }) if served != Some(place) => client.idle_since(),
+            _ => None,
         }
-        found
     }
 }

@@ -144,18 +144,13 @@ impl<R: Net + Clock + Drop, C: Counted> Line<C> for TcpLine<R> {
         if self.left == 0 {
             return Ok(false);
         }
-        if self.spent >= CALL_LIMIT {
+        if self.spent >= CALL_LIMIT || self.crowd.next().is_err() {
             return Err(self.fail_next());
         }
-        match self.crowd.next() {
-            Ok(()) => {
-                self.connected = true;
-                self.left -= 1;
-                self.spent += 1;
-                Ok(true)
-            }
-            Err(_) => Err(self.fail_next()),
-        }
+        self.connected = true;
+        self.left -= 1;
+        self.spent += 1;
+        Ok(true)
     }
 
     fn read(&mut self, buf: &mut [u8]) -> Result<usize, Failed> {
