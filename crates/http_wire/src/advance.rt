@@ -18,7 +18,7 @@ pub(crate) const HEAD_LIMIT: usize = 16_384;
 const LINE_ENDS: usize = 4;
 
 /// What the bytes that came begin with.
-#[derive(Clone, Copy, Debug, PartialEq, Eq)]
+#[derive(Clone, Copy)]
 pub(crate) enum Found {
     /// A whole head, by its spans.
     Head(RequestSpans),
@@ -73,8 +73,10 @@ pub(crate) fn advance<N: Line<C>, C: Counted>(
                 None => seen = pending.len(),
             }
         }
-        if read_more_of_request(pending, line, store)? == 0 {
-            return Ok(head_found_at_end(pending, headers));
+        match read_more_of_request(pending, line, store) {
+            Ok(0) => return Ok(head_found_at_end(pending, headers)),
+            Ok(_) => {}
+            Err(fault) => return Err(fault),
         }
     }
 }

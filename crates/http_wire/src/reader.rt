@@ -18,7 +18,7 @@ const LINES: usize = 8_192;
 
 /// Reads the requests of one connection. Contracts see it as the bytes read and not given yet, the number of the
 /// bytes given, and whether it has ended.
-#[derive(Debug, Drop)]
+#[derive(Drop)]
 pub struct Reader {
     /// The buffer: what was read while a head was sought, and not given yet.
     pending: Vec<u8>,

@@ -29,7 +29,7 @@ const PIECE: usize = 65_536;
 const AHEAD: usize = 16_777_216;
 
 /// What a whole head gives.
-#[derive(Debug, Drop)]
+#[derive(Drop)]
 pub(crate) enum Taken {
     /// A request, and how many bytes it has.
     Whole { message: Message, size: usize },

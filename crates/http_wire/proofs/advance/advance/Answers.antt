@@ -1,5 +1,4 @@
 use Rattle.std.proofs.Common.{length, ap, arith}
-use Rattle.http_wire.proofs.advance.advance.Goals.{then-is_due+in-None, else-is_due}
 use Rattle.http_wire.proofs.advance.advance.Goals as goal
 
 pub is_due-requires : goal.is_due-requires
@@ -8,5 +7,5 @@ is_due-requires g c = omega (arith, c.come.invariant.seen, ap length c.deref.ens
 pub returns-in-Some-clause-found : goal.returns-in-Some-clause-found
 returns-in-Some-clause-found g c = rw c.deref-then-is_due.ensures.value at c.in-Some.ensures.found
 
-pub returns-then-branch-eq0-clause-found : goal.returns-then-branch-eq0-clause-found
-returns-then-branch-eq0-clause-found g c = rw c.deref-then-branch-eq0.ensures.value at c.head_found_at_end.ensures.found
+pub returns-in-Ok-eq0-clause-found : goal.returns-in-Ok-eq0-clause-found
+returns-in-Ok-eq0-clause-found g c = rw c.deref-in-Ok-eq0.ensures.value at c.head_found_at_end.ensures.found
