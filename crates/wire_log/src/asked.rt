@@ -6,6 +6,7 @@ use crate::reply::trim_cr_for_log;
 use crate::target::append_name_for_log;
 use gate_base::Bytes;
 use std::alloc::Global;
+use std::mem::replace;
 
 /// The bytes of a line that are kept. No longer line of a head is looked at but the first, of which so many are.
 const KEPT: usize = 8192;
@@ -17,7 +18,7 @@ const MOST_NAMES: usize = 512;
 const DIGITS: usize = 15;
 
 /// What the bytes that were read say of the request at hand.
-#[derive(Clone, Copy, Debug, PartialEq, Eq)]
+#[derive(Clone, Copy, PartialEq, Eq)]
 enum Stage {
     /// No byte of the next request came.
     Before,
@@ -47,8 +48,13 @@ pub(crate) struct Asked {
 
 impl Asked {
     pub(crate) fn new(alloc: Global) -> Asked {
+        Asked::at(alloc, Stage::Before)
+    }
+
+    /// Nothing was read of the request at that stage.
+    fn at(alloc: Global, stage: Stage) -> Asked {
         Asked {
-            stage: Stage::Before,
+            stage,
             first: Bytes::new(alloc),
             line: Bytes::new(alloc),
             body: 0,
@@ -100,13 +106,7 @@ impl Asked {
     }
 
     fn clear(&mut self, stage: Stage) {
-        self.stage = stage;
-        self.first = Bytes::new(self.alloc);
-        self.line = Bytes::new(self.alloc);
-        self.body = 0;
-        self.has_length = false;
-        self.key = Bytes::new(self.alloc);
-        self.refusable = Bytes::new(self.alloc);
+        *self = Asked::at(self.alloc, stage);
     }
 
     /// These bytes were read.
@@ -151,17 +151,29 @@ impl Asked {
     }
 
     fn end_line(&mut self) {
-        let line = std::mem::replace(&mut self.line, Bytes::new(self.alloc));
-        let text = trim_cr_for_log(line.as_slice());
-        if self.stage != Stage::Head {} else if text.is_empty() {
-            if !self.first.is_empty() {
-                self.stage = Stage::Body(self.body);
-            }
-        } else if self.first.is_empty() {
-            self.first = line;
-        } else {
-            self.hear(text);
+        if self.stage == Stage::Head {
+            self.take_line();
         }
+        self.line = Bytes::new(self.alloc);
+    }
+
+    /// Takes a whole line of the head. Empty ones before the first are passed over.
+    fn take_line(&mut self) {
+        let is_empty = trim_cr_for_log(self.line.as_slice()).is_empty();
+        if self.first.is_empty() {
+            if !is_empty {
+                self.first = replace(&mut self.line, Bytes::new(self.alloc));
+            }
+        } else if is_empty {
+            self.stage = Stage::Body(self.body);
+        } else {
+            self.hear_line();
+        }
+    }
+
+    fn hear_line(&mut self) {
+        let line = replace(&mut self.line, Bytes::new(self.alloc));
+        self.hear(trim_cr_for_log(line.as_slice()));
     }
 
     /// Takes what a header says of the key and of the request's end.
@@ -178,14 +190,22 @@ impl Asked {
     /// What finds no memory isn't known.
     fn note_header(&mut self, name: &[u8], value: &[u8]) {
         if name.eq_ignore_ascii_case(b"authorization") {
-            if let (true, Some(key)) = (self.key.is_empty(), logged_key_of_header(value)) {
-                let _ = self.key.append(key);
-            }
+            self.note_key(value);
         } else if is_refusable_header(self.first.as_slice(), name, value) {
-            let room = MOST_NAMES.saturating_sub(self.refusable.len());
-            if name.len() < room {
-                let _ = append_name_for_log(&mut self.refusable, name);
-            }
+            self.note_refusable(name);
+        }
+    }
+
+    fn note_key(&mut self, value: &[u8]) {
+        if let (true, Some(key)) = (self.key.is_empty(), logged_key_of_header(value)) {
+            let _ = self.key.append(key);
+        }
+    }
+
+    fn note_refusable(&mut self, name: &[u8]) {
+        let room = MOST_NAMES.saturating_sub(self.refusable.len());
+        if name.len() < room {
+            let _ = append_name_for_log(&mut self.refusable, name);
         }
     }
 

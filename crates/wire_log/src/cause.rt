@@ -1,6 +1,7 @@
 //! Why a call of a store failed.
 ghost use Rattle.std.specs.Prelude.{◌<◌};
 
+use crate::pieces::append_log_pieces;
 use crate::reply::logged_status_of_reply;
 use gate_base::{Bytes, Memory};
 use itoa::Buffer;
@@ -82,7 +83,5 @@ pub(crate) fn append_cause(line: &mut Bytes, cause: Cause) -> Result<(), Memory>
 
 fn append_counted(line: &mut Bytes, front: &[u8], number: u64, end: &[u8]) -> Result<(), Memory> {
     let mut digits = Buffer::new();
-    line.append(front)?;
-    line.append(digits.format(number).as_bytes())?;
-    line.append(end)
+    append_log_pieces(line, &[front, digits.format(number).as_bytes(), end])
 }

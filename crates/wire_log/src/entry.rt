@@ -2,6 +2,7 @@
 ghost use Rattle.std.specs.Prelude.{◌≡◌};
 
 use crate::moment::moment_text;
+use crate::pieces::append_log_pieces;
 use crate::target::append_request_for_log;
 use gate_base::{Bytes, Memory};
 use itoa::Buffer;
@@ -9,7 +10,7 @@ use std::alloc::Global;
 use std::net::SocketAddr;
 
 /// What a log says of one reply.
-#[derive(Clone, Copy, Debug)]
+#[derive(Clone, Copy)]
 pub struct Entry<'a> {
     /// When it was sent, in milliseconds since the beginning of 1970.
     pub moment: u64,
@@ -38,11 +39,15 @@ const ROOM: usize = 256;
 /// key's id, with a space between each two. `-` stands for what isn't known, twice where neither method nor target is.
 pub fn log_entry_line(alloc: Global, entry: &Entry) -> Result<Bytes, Memory> {
     let mut line = Bytes::with_room(alloc, ROOM)?;
-    append_log_front(&mut line, entry)?;
-    append_log_reply(&mut line, entry)?;
-    append_log_costs(&mut line, entry)?;
-    append_log_client(alloc, &mut line, entry)?;
+    append_log_entry(alloc, &mut line, entry)?;
     Ok(line)
+}
+
+fn append_log_entry(alloc: Global, line: &mut Bytes, entry: &Entry) -> Result<(), Memory> {
+    append_log_front(line, entry)?;
+    append_log_pieces(line, &[b" ", entry.status, b" ", entry.id])?;
+    append_log_costs(line, entry)?;
+    append_log_client(alloc, line, entry)
 }
 
 fn append_log_front(line: &mut Bytes, entry: &Entry) -> Result<(), Memory> {
@@ -55,36 +60,38 @@ fn append_log_front(line: &mut Bytes, entry: &Entry) -> Result<(), Memory> {
     }
 }
 
-fn append_log_reply(line: &mut Bytes, entry: &Entry) -> Result<(), Memory> {
-    line.append(b" ")?;
-    line.append(entry.status)?;
-    line.append(b" ")?;
-    line.append(entry.id)
-}
-
 fn append_log_costs(line: &mut Bytes, entry: &Entry) -> Result<(), Memory> {
-    match entry.bytes {
-        Some(bytes) => append_log_number(line, bytes)?,
-        None => line.append(b" -")?,
-    }
+    append_log_size(line, entry.bytes)?;
     append_log_number(line, entry.calls)?;
     append_log_number(line, entry.took)
 }
 
+fn append_log_size(line: &mut Bytes, bytes: Option<u64>) -> Result<(), Memory> {
+    match bytes {
+        Some(bytes) => append_log_number(line, bytes),
+        None => line.append(b" -"),
+    }
+}
+
 fn append_log_client(alloc: Global, line: &mut Bytes, entry: &Entry) -> Result<(), Memory> {
     line.append(b" ")?;
-    match entry.peer {
-        Some(peer) => line.append(format!(in alloc; "{peer}")?.as_bytes())?,
-        None => line.append(b"-")?,
+    append_log_peer(alloc, line, entry.peer)?;
+    append_log_pieces(line, &[b" ", entry.key.unwrap_or(b"-"), b"\n"])
+}
+
+fn append_log_peer(
+    alloc: Global,
+    line: &mut Bytes,
+    peer: Option<SocketAddr>,
+) -> Result<(), Memory> {
+    match peer {
+        Some(peer) => line.append(format!(in alloc; "{peer}")?.as_bytes()),
+        None => line.append(b"-"),
     }
-    line.append(b" ")?;
-    line.append(entry.key.unwrap_or(b"-"))?;
-    line.append(b"\n")
 }
 
 /// Appends a space and a number.
 fn append_log_number(line: &mut Bytes, number: u64) -> Result<(), Memory> {
     let mut digits = Buffer::new();
-    line.append(b" ")?;
-    line.append(digits.format(number).as_bytes())
+    append_log_pieces(line, &[b" ", digits.format(number).as_bytes()])
 }

@@ -11,6 +11,7 @@ mod logged_line;
 mod logged_store;
 mod moment;
 mod peers;
+mod pieces;
 mod refusable;
 mod reply;
 mod second;

@@ -2,6 +2,7 @@
 
 use crate::cause::{Cause, append_cause};
 use crate::moment::moment_text;
+use crate::pieces::append_log_pieces;
 use gate_base::{Bytes, Memory, Sink};
 use std::alloc::Global;
 use std::time::{Clock, Duration};
@@ -36,10 +37,13 @@ impl<K: Sink, R: Clock> Log<K, R> {
 
     /// Writes a line of a store: what is said, and why.
     pub fn say_store(&mut self, place: &[u8], what: &[u8], cause: Cause) {
-        if let (true, Ok(text)) = (
-            self.is_on,
-            said_of_logged_store(self.alloc, place, what, cause),
-        ) {
+        if self.is_on {
+            self.say_made(said_of_logged_store(self.alloc, place, what, cause));
+        }
+    }
+
+    fn say_made(&mut self, text: Result<Bytes, Memory>) {
+        if let Ok(text) = text {
             self.say(text.as_slice());
         }
     }
@@ -78,9 +82,7 @@ impl<K: Sink, R: Clock> Log<K, R> {
 
 fn said_log_line(alloc: Global, moment: u64, text: &[u8]) -> Result<Bytes, Memory> {
     let mut line = Bytes::from_slice(alloc, &moment_text(moment))?;
-    line.append(b" ")?;
-    line.append(text)?;
-    line.append(b"\n")?;
+    append_log_pieces(&mut line, &[b" ", text, b"\n"])?;
     Ok(line)
 }
 
@@ -91,9 +93,7 @@ fn said_of_logged_store(
     cause: Cause,
 ) -> Result<Bytes, Memory> {
     let mut text = Bytes::from_slice(alloc, b"store ")?;
-    text.append(place)?;
-    text.append(b": ")?;
-    text.append(what)?;
+    append_log_pieces(&mut text, &[place, b": ", what])?;
     append_cause(&mut text, cause)?;
     Ok(text)
 }

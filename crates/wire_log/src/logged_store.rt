@@ -5,6 +5,7 @@ use crate::cause::{Cause, Explains, append_cause};
 use crate::last_call::{LastCall, path_of_logged_call};
 use crate::log::Log;
 use crate::moment::moment_text;
+use crate::pieces::append_log_pieces;
 use gate_base::{Bytes, Counted, Memory, Sink};
 use std::alloc::Global;
 use std::time::Clock;
@@ -68,6 +69,31 @@ impl<W, K: Sink, R: Clock> LoggedStore<W, K, R> {
     }
 }
 
+impl<W: Explains, K: Sink, R: Clock> LoggedStore<W, K, R> {
+    /// That call was answered so.
+    fn note_answer(&mut self, request: &SwiftRequest, answer: &Result<SwiftReply, SwiftFault>)
+        ensures { self.new.store ≡ self.old.store }
+    {
+        if !self.log.is_on() {
+            return;
+        }
+        self.note_call(request);
+        match answer {
+            Ok(_) => self.note(None),
+            Err(SwiftFault::Failed) => self.note_fault(),
+            Err(SwiftFault::Memory) => {}
+        }
+    }
+
+    /// The last call failed.
+    fn note_fault(&mut self)
+        ensures { self.new.store ≡ self.old.store }
+    {
+        let cause = self.store.cause().unwrap_or(Cause::Other);
+        self.note(Some(cause));
+    }
+}
+
 /// The line, with its end: time, `store`, the place and a colon, and the cause or that it is well again.
 fn store_log_line(
     alloc: Global,
@@ -76,19 +102,17 @@ fn store_log_line(
     failing: Option<Cause>,
 ) -> Result<Bytes, Memory> {
     let mut line = Bytes::from_slice(alloc, &moment_text(moment))?;
-    append_log_place(&mut line, place)?;
-    match failing {
-        Some(cause) => append_cause(&mut line, cause)?,
-        None => line.append(b"well again")?,
-    }
-    line.append(b"\n")?;
+    append_log_pieces(&mut line, &[b" store ", place, b": "])?;
+    append_state_of_logged_store(&mut line, failing)?;
     Ok(line)
 }
 
-fn append_log_place(line: &mut Bytes, place: &[u8]) -> Result<(), Memory> {
-    line.append(b" store ")?;
-    line.append(place)?;
-    line.append(b": ")
+fn append_state_of_logged_store(line: &mut Bytes, failing: Option<Cause>) -> Result<(), Memory> {
+    match failing {
+        Some(cause) => append_cause(line, cause)?,
+        None => line.append(b"well again")?,
+    }
+    line.append(b"\n")
 }
 
 impl<W: Counted, K, R> Counted for LoggedStore<W, K, R> {
@@ -114,17 +138,7 @@ impl<W: Swift + Explains, K: Sink, R: Clock> Swift for LoggedStore<W, K, R> {
 
     fn call(&mut self, request: &SwiftRequest) -> Result<SwiftReply, SwiftFault> {
         let result = self.store.call(request);
-        if self.log.is_on() {
-            self.note_call(request);
-            match &result {
-                Ok(_) => self.note(None),
-                Err(SwiftFault::Failed) => {
-                    let cause = self.store.cause().unwrap_or(Cause::Other);
-                    self.note(Some(cause));
-                }
-                Err(SwiftFault::Memory) => {}
-            }
-        }
+        self.note_answer(request, &result);
         result
     }
 }

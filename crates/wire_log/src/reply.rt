@@ -12,7 +12,7 @@ const MOST_LINES: usize = 100;
 const ID: &[u8] = b"x-amz-request-id: ";
 
 /// A status or an id.
-#[derive(Clone, Copy, Debug)]
+#[derive(Clone, Copy)]
 struct LoggedWord {
     bytes: [u8; LONGEST_ID],
     len: usize,
@@ -33,7 +33,7 @@ impl LoggedWord {
 }
 
 /// A reply, as far as it is written. Of its bytes the status and the id are kept.
-#[derive(Clone, Copy, Debug)]
+#[derive(Clone, Copy)]
 pub(crate) struct LoggedReply {
     status: LoggedWord,
     id: LoggedWord,

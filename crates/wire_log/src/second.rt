@@ -2,6 +2,7 @@
 
 use crate::asked::Asked;
 use crate::moment::moment_text;
+use crate::pieces::append_log_pieces;
 use crate::target::{append_name_for_log, append_query_names_for_log, split_logged_text};
 use gate_base::{Bytes, Memory};
 use itoa::Buffer;
@@ -15,15 +16,17 @@ pub(crate) fn unimplemented_log_line(
     asked: &Asked,
 ) -> Result<Bytes, Memory> {
     let mut line = second_log_line_front(alloc, moment, connection)?;
+    append_log_unimplemented(&mut line, asked)?;
+    Ok(line)
+}
+
+fn append_log_unimplemented(line: &mut Bytes, asked: &Asked) -> Result<(), Memory> {
     line.append(b" not implemented:")?;
     let names = asked.refusable();
     if names.is_empty() {
-        append_query_names_for_log(&mut line, asked.first_line().unwrap_or(b""))?;
-    } else {
-        line.append(names)?;
+        append_query_names_for_log(line, asked.first_line().unwrap_or(b""))?;
     }
-    line.append(b"\n")?;
-    Ok(line)
+    append_log_pieces(line, &[names, b"\n"])
 }
 
 /// The line for a reply that says that the store is inconsistent: the container and the object of the last call.
@@ -34,18 +37,21 @@ pub(crate) fn inconsistent_log_line(
     call: &[u8],
 ) -> Result<Bytes, Memory> {
     let mut line = second_log_line_front(alloc, moment, connection)?;
+    append_log_inconsistent(&mut line, call)?;
+    Ok(line)
+}
+
+fn append_log_inconsistent(line: &mut Bytes, call: &[u8]) -> Result<(), Memory> {
     let (container, name) = split_logged_text(call, b'/');
     line.append(b" inconsistent:")?;
-    append_name_for_log(&mut line, container)?;
-    append_name_for_log(&mut line, name)?;
-    line.append(b"\n")?;
-    Ok(line)
+    append_name_for_log(line, container)?;
+    append_name_for_log(line, name)?;
+    line.append(b"\n")
 }
 
 fn second_log_line_front(alloc: Global, moment: u64, connection: u64) -> Result<Bytes, Memory> {
     let mut digits = Buffer::new();
     let mut line = Bytes::from_slice(alloc, &moment_text(moment))?;
-    line.append(b" ")?;
-    line.append(digits.format(connection).as_bytes())?;
+    append_log_pieces(&mut line, &[b" ", digits.format(connection).as_bytes()])?;
     Ok(line)
 }
