@@ -78,12 +78,12 @@ impl Came {
         let Some(piece) = self.pieces.back_mut() else {
             return Err(AllocError);
         };
-        let room = piece.capacity().min(PIECE).saturating_sub(piece.len());
-        let got = read_more(stream, piece, READ.min(room).min(left))?;
-        if let Ok(count) = &got {
-            self.behind = self.behind.saturating_add(*count);
-        }
-        Ok(got)
+        let came = piece.len();
+        let room = piece.capacity().min(PIECE).saturating_sub(came);
+        let got = read_more(stream, piece, READ.min(room).min(left));
+        let more = piece.len().saturating_sub(came);
+        self.behind = self.behind.saturating_add(more);
+        got
     }
 
     /// Makes a new piece where the last one is full, so that no byte is moved again. `left` is how many bytes are still to come.

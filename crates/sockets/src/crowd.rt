@@ -306,10 +306,8 @@ impl<R: Net + Clock + Drop> Crowd<R> {
     /// How many bytes a client takes at once, or are kept for it.
     fn put(&mut self, place: usize, bytes: &[u8]) -> io::Result<usize> {
         let room = self.most.saturating_sub(self.held);
-        let now = self.now;
-        let limit = self.limit;
         let count = match self.places.get_mut(place) {
-            Some(client) => client.put(bytes, room, now, limit)?,
+            Some(client) => client.put(bytes, room, self.now, self.limit)?,
             None => bytes.len(),
         };
         self.count(place);
@@ -369,7 +367,7 @@ impl<R: Net + Clock + Drop> Crowd<R> {
         }
         for _wait in 0..u64::MAX {
             if self.places.are_empty() {
-                return Ok(());
+                break;
             }
             self.look(Duration::from_millis(REST))?;
         }
