@@ -1,16 +1,18 @@
 -- What was sent of the interim line while a request was read.
-use Rattle.std.proofs.Common.{◌≡◌, ℕ, inl, inr, Bool, true, List, [], ◌++◌, Result, Ok, Err, subst, ◌∙◌}
+use Rattle.std.proofs.Common.{◌≡◌, ℕ, inl, inr, Bool, true, true≢false, List, [], ◌++◌, Result, Ok, Err, refl, sym, subst, ◌∙◌}
 use Rattle.gate_base.specs.declared.outside.Piece.{Piece}
 use Rattle.gate_base.specs.Transcript.{Transcript}
 use Rattle.httparse.specs.declared.spans.HeaderSpan.{HeaderSpan}
 use Rattle.httparse.specs.declared.spans.RequestSpans.{RequestSpans}
 use Rattle.httparse.specs.Grammar.{RequestHead}
 use Rattle.httparse.specs.Spans.{IsRequestAt}
+use Rattle.http_wire.specs.declared.message.Kind.{Kind}
+use Rattle.http_wire.specs.declared.message.Message.{Message}
 use Rattle.http_wire.specs.declared.message.ReadFault.{ReadFault}
 use Rattle.http_wire.specs.declared.message.ReadFault.TheVariants.{Failed, Memory}
 use Rattle.http_wire.specs.declared.advance.Found.TheVariants.{Head}
-use Rattle.http_wire.specs.FirstMessage.{HasHead, HasNoHead, message_of}
-use Rattle.http_wire.specs.Interim.{is_owed, OwesInterim, SendsInterim, MaySendInterim, CutsInterim, SendsOn, SendsOnFault}
+use Rattle.http_wire.specs.FirstMessage.{HasHead, HasNoHead, judge, message_of}
+use Rattle.http_wire.specs.Interim.{is_owed, owed_by, OwesInterim, SendsInterim, MaySendInterim, CutsInterim, SendsOn, SendsOnFault}
 use Rattle.http_wire.specs.Seen.{window, IsFound}
 use Rattle.http_wire.proofs.FirstMessageLemmas.{whole_head}
 use Rattle.http_wire.proofs.lemmas.OwedLemmas.{owed_by_head, none_owed}
@@ -74,3 +76,17 @@ then_reads P at old middle new (Err Failed) (inl (p, e)) s = inr (p, 25, s ∙ e
 then_reads P at old middle new (Err Failed) (inr (n, e)) s = inl (s ∙ e)
 then_reads P at old middle new (Err Memory) (inl (p, e)) s = inr (p, s ∙ e)
 then_reads P at old middle new (Err Memory) (inr (n, e)) s = inl (s ∙ e)
+
+-- what was sent for a message that is accepted was sent for its head
+pub sent_for_head : (limit size : ℕ) (message of_head : Message) (connection at : ℕ) (old new : List Piece) → message ≡ of_head → Ok size ≡ judge limit message
+    → SendsInterim (owed_by message (Ok size) ≡ true) connection at old new → SendsInterim (is_owed limit of_head ≡ true) connection at old new
+sent_for_head limit size message of_head connection at old new same judged sends =
+    subst (λ (m : Message). SendsInterim (is_owed limit m ≡ true) connection at old new) same
+    (subst (λ (r : Result ℕ Kind). SendsInterim (owed_by message r ≡ true) connection at old new) judged sends)
+
+-- and nothing is owed for one that is refused
+pub none_for_head : (limit : ℕ) (kind : Kind) (message of_head : Message) (connection at : ℕ) (old : List Piece) → message ≡ of_head → Err kind ≡ judge limit message
+    → SendsInterim (is_owed limit of_head ≡ true) connection at old old
+none_for_head limit kind message of_head connection at old same judged =
+    subst (λ (m : Message). SendsInterim (is_owed limit m ≡ true) connection at old old) same
+    (subst (λ (r : Result ℕ Kind). SendsInterim (owed_by message r ≡ true) connection at old old) judged (inr (λ e. absurd (true≢false (sym e)), refl)))
