@@ -90,3 +90,10 @@ pub none_for_head : (limit : ℕ) (kind : Kind) (message of_head : Message) (con
 none_for_head limit kind message of_head connection at old same judged =
     subst (λ (m : Message). SendsInterim (is_owed limit m ≡ true) connection at old old) same
     (subst (λ (r : Result ℕ Kind). SendsInterim (owed_by message r ≡ true) connection at old old) judged (inr (λ e. absurd (true≢false (sym e)), refl)))
+
+-- the same where the body could not be taken
+pub fault_for_head : (limit size : ℕ) (message of_head : Message) (at : ℕ) (old new : Transcript) (fault : ReadFault) → message ≡ of_head → Ok size ≡ judge limit message
+    → SendsOnFault (owed_by message (Ok size) ≡ true) at old fault new → SendsOnFault (is_owed limit of_head ≡ true) at old fault new
+fault_for_head limit size message of_head at old new fault same judged sends =
+    subst (λ (m : Message). SendsOnFault (is_owed limit m ≡ true) at old fault new) same
+    (subst (λ (r : Result ℕ Kind). SendsOnFault (owed_by message r ≡ true) at old fault new) judged sends)
