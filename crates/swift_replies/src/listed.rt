@@ -32,7 +32,7 @@ pub(crate) trait Listed: Sized {
     fn from_entry(alloc: Global, entry: &Value<'_>) -> Result<Option<Self>, Memory>
         ensures { IfOk result (λ item. item ≡ gives (value_view entry.now)) };
 
-    /// Whether it has a spelling: its texts are UTF-8.
+    /// Whether it has a spelling: its texts are UTF-8, and its size has at most 19 digits.
     fn is_spelled(&self) -> bool
         ensures { result ≡ spelled self.now };
 
