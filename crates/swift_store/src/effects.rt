@@ -27,7 +27,10 @@ fn etag_in(reply: SwiftReply) -> Option<Bytes>
 {
     match reply {
         SwiftReply::Stored { etag } => Some(etag),
-        _ => None,
+        other => {
+            drop_reply(other);
+            None
+        }
     }
 }
 

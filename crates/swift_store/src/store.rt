@@ -1,19 +1,19 @@
 //! Requests in, answers out.
-ghost use Rattle.std.specs.Prelude.{◌≡◌, ◌++◌, IsTrue, IfOk, OnErr};
+ghost use Rattle.std.specs.Prelude.{◌≡◌, ◌++◌, IsTrue, IfOk, OnErr, OnOk};
 ghost use Rattle.swift_calls.specs.Step.{Fit, swift_step};
 ghost use Rattle.swift_calls.specs.declared.calls.SwiftRequest.{SwiftRequest};
 ghost use Rattle.swift_replies.specs.AnswerText.{answer_text, refusal};
 ghost use Rattle.swift_requests.specs.Place.{IsPlace};
-ghost use Rattle.swift_store.specs.Shelf.{ShelfKeeps, ShelfReads, Writes};
-ghost use Rattle.swift_store.specs.Serving.{Answers, IsReply, Served, TagsBody};
+ghost use Rattle.swift_store.specs.Shelf.{ShelfKeeps, Writes};
+ghost use Rattle.swift_store.specs.Serving.{Answers, Served, TagsBody};
 
 use crate::effects::apply_call_to_shelf;
 use crate::replies::shelf_reply_to_call;
 use crate::{Shelf, StoreFault};
-use gate_base::{Bytes, Memory};
+use gate_base::{Bytes, Memory, drop};
 use http_wire::Message;
 use std::alloc::Global;
-use swift_calls::{SwiftReply, SwiftRequest};
+use swift_calls::{SwiftReply, SwiftRequest, drop_reply, drop_request};
 use swift_replies::{WireFault, refusal, write_answer};
 use swift_requests::{Place, has_account_token, read_call};
 
@@ -24,9 +24,16 @@ fn with_served_text(alloc: Global, before: &Bytes, text: Bytes) -> Result<Bytes,
     if before.is_empty() {
         return Ok(text);
     }
-    let mut all = Bytes::with_room(alloc, before.len().saturating_add(text.len()))?;
-    all.append(before.as_slice())?;
-    all.append(text.as_slice())?;
+    joined_texts(alloc, before.as_slice(), text.as_slice())
+}
+
+/// A new text of two, one behind the other.
+fn joined_texts(alloc: Global, front: &[u8], back: &[u8]) -> Result<Bytes, Memory>
+    ensures { IfOk result (λ all. all ≡ front.now ++ back.now) }
+{
+    let mut all = Bytes::with_room(alloc, front.len().saturating_add(back.len()))?;
+    all.append(front)?;
+    all.append(back)?;
     Ok(all)
 }
 
@@ -56,25 +63,41 @@ fn serve_call<S: Shelf>(
     ensures answers { Answers (S.model shelf.old).observable call (S.model shelf.old).account
         (S.model shelf.new).account out.old out.new result }
 {
-    let (reply, ready) = ready_shelf_reply(alloc, shelf, &call, out)?;
-    apply_ready_call_to_shelf(shelf, call, reply, ready, out)
+    match shelf_reply_to_call(alloc, shelf, &call) {
+        Ok(reply) => serve_call_with_reply(alloc, shelf, call, reply, out),
+        Err(fault) => {
+            drop_request(call);
+            Err(fault)
+        }
+    }
 }
 
-/// The reply to a call, and what is written so far with its answer behind it. Nothing is written to the shelf.
-fn ready_shelf_reply<S: Shelf>(
+/// Serves a call whose reply is known. After an Err `out` is as before.
+fn serve_call_with_reply<S: Shelf>(
     alloc: Global,
     shelf: &mut S,
-    call: &SwiftRequest,
-    before: &Bytes,
-) -> Result<(SwiftReply, Bytes), StoreFault>
-    ensures reads { ShelfReads (λ account found. IsReply call.now account found.0)
-        (S.model shelf.old) result (S.model shelf.new) }
-    ensures tags { IfOk result (λ found. TagsBody call.now found.0) }
-    ensures text { IfOk result (λ found. found.1 ≡ before.now ++ answer_text call.now found.0) }
+    call: SwiftRequest,
+    reply: SwiftReply,
+    out: &mut Bytes,
+) -> Result<(), StoreFault>
+    requires fit { Fit call }
+    requires tags { TagsBody call reply }
+    ensures keeps { ShelfKeeps (S.model shelf.old) result (S.model shelf.new) }
+    ensures effect { IsTrue (S.model shelf.old).observable
+        → reply ≡ (swift_step call (S.model shelf.old).account).reply
+        → Writes (S.model shelf.old).account (swift_step call (S.model shelf.old).account).tree
+        (S.model shelf.new).account result }
+    ensures text { IfOk result (λ done. out.new ≡ out.old ++ answer_text call reply) }
+    ensures text_err { OnErr result (out.new ≡ out.old) }
 {
-    let reply = shelf_reply_to_call(alloc, shelf, call)?;
-    let ready = with_served_answer(alloc, before, call, &reply)?;
-    Ok((reply, ready))
+    match with_served_answer(alloc, out, &call, &reply) {
+        Ok(ready) => apply_ready_call_to_shelf(shelf, call, reply, ready, out),
+        Err(Memory) => {
+            drop_request(call);
+            drop_reply(reply);
+            Err(StoreFault::Memory)
+        }
+    }
 }
 
 /// Writes what a call writes whose reply is known, and then puts the answer that is ready in the place of what was written
@@ -102,13 +125,14 @@ fn apply_ready_call_to_shelf<S: Shelf>(
     Ok(())
 }
 
-/// What is written so far with an answer behind it that says its status alone.
-fn with_served_refusal(alloc: Global, before: &Bytes, status: u16) -> Result<Bytes, Memory>
-    ensures { IfOk result (λ all. all ≡ before.now ++ refusal status) }
+/// Appends an answer that says its status alone. After an Err `out` is as before.
+fn append_refusal(alloc: Global, out: &mut Bytes, status: u16) -> Result<(), Memory>
+    ensures ok { OnOk result (out.new ≡ out.old ++ refusal status) }
+    ensures err { OnErr result (out.new ≡ out.old) }
 {
     let text = refusal(alloc, status)?;
-    let all = with_served_text(alloc, before, text)?;
-    Ok(all)
+    *out = with_served_text(alloc, out, text)?;
+    Ok(())
 }
 
 /// Appends the answer to one message: `401 Unauthorized` where it hasn't exactly one `X-Auth-Token` with the place's
@@ -128,15 +152,12 @@ pub fn serve<S: Shelf>(
         (S.model shelf.old).account (S.model shelf.new).account out.old out.new result }
 {
     if !has_account_token(place, &message) {
-        *out = with_served_refusal(alloc, out, 401)?;
-        return Ok(());
+        drop(message);
+        return Ok(append_refusal(alloc, out, 401)?);
     }
     match read_call(alloc, place, message) {
         Ok(call) => serve_call(alloc, shelf, call, out),
-        Err(WireFault::NotACall) => {
-            *out = with_served_refusal(alloc, out, 400)?;
-            Ok(())
-        }
+        Err(WireFault::NotACall) => Ok(append_refusal(alloc, out, 400)?),
         Err(WireFault::Memory) => Err(StoreFault::Memory),
         Err(WireFault::NotAnAnswer) => unreachable!(),
     }
