@@ -64,9 +64,12 @@ pub reads_ok : {A B : Type 0} {told : SwiftAccount → A → Type 0} {less : Swi
 reads_ok {old = old} one of = record { keeps = keeps_ok one.keeps; same = one.same; effect = λ o. of old.account (one.effect o) }
 
 -- nothing was called
+pub keeps_none : {A : Type 0} {old : ShelfModel} {value : A} → ShelfKeeps old (Ok value) old
+keeps_none = record { faults = refl; sure = λ s. s; never = λ s failed. cc; observable = λ o. o; told = λ o. o }
+
 pub reads_none : {A : Type 0} {told : SwiftAccount → A → Type 0} {old : ShelfModel} {value : A} → ((account : SwiftAccount) → told account value) → ShelfReads told old (Ok value) old
 reads_none {old = old} of = record {
-  keeps = record { faults = refl; sure = λ s. s; never = λ s failed. cc; observable = λ o. o; told = λ o. o };
+  keeps = keeps_none;
   same = λ o. refl;
   effect = λ o. of old.account;
 }

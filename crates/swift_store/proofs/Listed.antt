@@ -26,7 +26,7 @@ drop_at segments i s within at = drop-cons segments i s within ∙ (λ j. sym at
 -- ---- what is found
 
 module _ (look : Look) (s : Segment) where
-  pub found_so : (head : StoredHead) → Some head ≡ option_map head_of (look s.container s.name) → is_shelved_as_listed s head ≡ true → Some head.manifest ≡ found_lists look s
+  found_so : (head : StoredHead) → Some head ≡ option_map head_of (look s.container s.name) → is_shelved_as_listed s head ≡ true → Some head.manifest ≡ found_lists look s
   found_so head e is = by (look s.container s.name) e
     where
       by : (v : Option SwiftObject) → Some head ≡ option_map head_of v → Some head.manifest ≡ option_map is_list (as_segment s v)
@@ -36,7 +36,7 @@ module _ (look : Look) (s : Segment) where
           let there : is_segment s f ≡ true = sym (ap (is_shelved_as_listed s) same) ∙ is in
           ap (λ (h : StoredHead). Some h.manifest) same ∙ sym (ap (λ b. option_map is_list (cond b (Some f.content) None)) there)
 
-  pub found_other : (head : StoredHead) → Some head ≡ option_map head_of (look s.container s.name) → is_shelved_as_listed s head ≡ false → None ≡ found_lists look s
+  found_other : (head : StoredHead) → Some head ≡ option_map head_of (look s.container s.name) → is_shelved_as_listed s head ≡ false → None ≡ found_lists look s
   found_other head e is = by (look s.container s.name) e
     where
       by : (v : Option SwiftObject) → Some head ≡ option_map head_of v → None ≡ option_map is_list (as_segment s v)
@@ -44,6 +44,15 @@ module _ (look : Look) (s : Segment) where
       by (Some f) e =
           let other : is_segment s f ≡ false = sym (ap (is_shelved_as_listed s) (same_Some head (head_of f) e)) ∙ is in
           sym (ap (λ b. option_map is_list (cond b (Some f.content) None)) other)
+
+  -- by what is told of a head
+  pub found_as : (head : StoredHead) (told : Option Bool) → Some head ≡ option_map head_of (look s.container s.name) → (is_shelved_as_listed s head ≡ true → told ≡ Some head.manifest) → (is_shelved_as_listed s head ≡ false → told ≡ None)
+      → told ≡ found_lists look s
+  found_as head told e so other = by (is_shelved_as_listed s head) refl
+    where
+      by : (b : Bool) → is_shelved_as_listed s head ≡ b → told ≡ found_lists look s
+      by true is = so is ∙ found_so head e is
+      by false is = other is ∙ found_other head e is
 
   pub found_none : None ≡ option_map head_of (look s.container s.name) → None ≡ found_lists look s
   found_none e = by (look s.container s.name) e

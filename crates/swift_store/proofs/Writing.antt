@@ -97,13 +97,17 @@ module _ (c n content_type : List ℕ) (meta : List (List ℕ)) (body : List ℕ
   abbrev object : SwiftObject
   object = record { content_type = content_type; meta = meta; content = Plain body }
 
-  pub put : (reply : SwiftReply) (etag : List ℕ) → Some etag ≡ etag_in reply → reply ≡ (swift_step (PutObject c n content_type meta body) account).reply
+  put : (reply : SwiftReply) (etag : List ℕ) → Some etag ≡ etag_in reply → reply ≡ (swift_step (PutObject c n content_type meta body) account).reply
       → put_file c n object account ≡ (swift_step (PutObject c n content_type meta body) account).tree
   put reply etag tag e = by (get account c) (tag ∙ ap etag_in e)
     where
       by : (v : Option SwiftContainer) → Some etag ≡ etag_in (put_object v c n object account).reply → put_file c n object account ≡ (put_object v c n object account).tree
       by None e = absurd (none-some _ (sym e))
       by (Some folder) e = refl
+
+  pub put_by : (reply : SwiftReply) (etag : List ℕ) (new : SwiftAccount) (result : Result (Unit {0}) StoreFault) → Some etag ≡ etag_in reply → reply ≡ (swift_step (PutObject c n content_type meta body) account).reply
+      → Writes account (put_file c n object account) new result → Writes account (swift_step (PutObject c n content_type meta body) account).tree new result
+  put_by reply etag new result tag e writes = subst (λ (tree : SwiftAccount). Writes account tree new result) (put reply etag tag e) writes
 
   pub not_put : (reply : SwiftReply) → None ≡ etag_in reply → reply ≡ (swift_step (PutObject c n content_type meta body) account).reply → account ≡ (swift_step (PutObject c n content_type meta body) account).tree
   not_put reply tag e = by (get account c) (tag ∙ ap etag_in e)
@@ -163,7 +167,7 @@ module _ (c n content_type : List ℕ) (meta : List (List ℕ)) (segments : List
   abbrev list : SwiftObject
   list = record { content_type = content_type; meta = meta; content = Segments segments }
 
-  pub put_list : (reply : SwiftReply) (etag : List ℕ) → Some etag ≡ etag_in reply → reply ≡ (swift_step (PutManifest c n content_type meta segments) account).reply
+  put_list : (reply : SwiftReply) (etag : List ℕ) → Some etag ≡ etag_in reply → reply ≡ (swift_step (PutManifest c n content_type meta segments) account).reply
       → put_file c n list account ≡ (swift_step (PutManifest c n content_type meta segments) account).tree
   put_list reply etag tag e = by (get account c) (tag ∙ ap etag_in e)
     where
@@ -174,6 +178,10 @@ module _ (c n content_type : List ℕ) (meta : List (List ℕ)) (segments : List
       by : (v : Option SwiftContainer) → Some etag ≡ etag_in (put_manifest v c n content_type meta segments account).reply → put_file c n list account ≡ (put_manifest v c n content_type meta segments account).tree
       by None e = absurd (none-some _ (sym e))
       by (Some folder) e = good (is_good_list (find_object account) segments) folder e
+
+  pub put_list_by : (reply : SwiftReply) (etag : List ℕ) (new : SwiftAccount) (result : Result (Unit {0}) StoreFault) → Some etag ≡ etag_in reply → reply ≡ (swift_step (PutManifest c n content_type meta segments) account).reply
+      → Writes account (put_file c n list account) new result → Writes account (swift_step (PutManifest c n content_type meta segments) account).tree new result
+  put_list_by reply etag new result tag e writes = subst (λ (tree : SwiftAccount). Writes account tree new result) (put_list reply etag tag e) writes
 
   pub not_put_list : (reply : SwiftReply) → None ≡ etag_in reply → reply ≡ (swift_step (PutManifest c n content_type meta segments) account).reply → account ≡ (swift_step (PutManifest c n content_type meta segments) account).tree
   not_put_list reply tag e = by (get account c) (tag ∙ ap etag_in e)

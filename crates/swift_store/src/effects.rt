@@ -71,7 +71,6 @@ fn delete_container_on_shelf<S: Shelf>(
     Ok(())
 }
 
-#[tactic(auto, using(crate::proofs::Writing::put, crate::proofs::Writing::not_put, crate::proofs::Writing::tagged, crate::proofs::Writing::put_made))]
 fn put_object_on_shelf<S: Shelf>(
     shelf: &mut S,
     container: &[u8],
@@ -105,7 +104,6 @@ fn put_object_on_shelf<S: Shelf>(
     }
 }
 
-#[tactic(auto, using(crate::proofs::Writing::put_list, crate::proofs::Writing::not_put_list, crate::proofs::Writing::list_tagged, crate::proofs::Writing::list_made))]
 fn put_manifest_on_shelf<S: Shelf>(
     shelf: &mut S,
     container: &[u8],

@@ -1,9 +1,10 @@
 //! A container as it is kept in memory, and containers by their names.
-ghost use Rattle.std.specs.Prelude.{◌≡◌, [], IfOk, OnErr, OnOk, option_copied};
+ghost use Rattle.std.specs.Prelude.{◌≡◌, [], ◌∷◌, ◌++◌, IfOk, OnErr, OnOk, option_copied};
 ghost use Rattle.std.specs.Option.{option_map};
 ghost use Rattle.std.specs.FinMap.{entries, get, insert, remove};
 ghost use Rattle.gate_base.specs.Maps.{adjust};
 ghost use Rattle.swift_calls.specs.Account.{new_folder, on_files, put_file, remove_file, with_head};
+ghost use Rattle.swift_calls.specs.Bodies.{item_of};
 ghost use Rattle.swift_calls.specs.Step.{is_bare};
 ghost use Rattle.std.specs.Range.Bound.{bound_map};
 ghost use Rattle.swift_store.specs.Listing.{object_run};
@@ -154,17 +155,36 @@ pub(crate) fn map_shelf_container_page(
     ensures { IfOk result (λ names. names ≡ map_shelf_container_page limit marker.now folders.now) }
 {
     let after = Vec::from_slice(alloc, marker)?;
+    map_shelf_names_behind(folders, alloc, &after, limit)
+}
+
+/// The same after a name.
+fn map_shelf_names_behind(
+    folders: &Table<Folder>,
+    alloc: Global,
+    after: &Vec<u8>,
+    limit: usize,
+) -> Result<List<Bytes>, Memory>
+    ensures { IfOk result
+        (λ names. names ≡ map_shelf_container_page limit after.now.items folders.now) }
+{
     let mut names = List::new(alloc);
     for (name, _) in folders
         .as_map()
-        .range((Bound::Excluded(&after), Bound::Unbounded))
+        .range((Bound::Excluded(after), Bound::Unbounded))
     {
         if names.len() == limit {
             return Ok(names);
         }
-        names.push(Bytes::from_slice(alloc, name)?)?;
+        add_name(&mut names, alloc, name)?;
     }
     Ok(names)
+}
+
+fn add_name(names: &mut List<Bytes>, alloc: Global, name: &[u8]) -> Result<(), Memory>
+    ensures { OnOk result (names.new ≡ names.old ++ name.now ∷ []) }
+{
+    names.push(Bytes::from_slice(alloc, name)?)
 }
 
 /// The objects after the marker whose names begin with the prefix, at most so many. Only these are visited, and one more.
@@ -208,7 +228,18 @@ fn run(
         if !name.starts_with(prefix) {
             return Ok(items);
         }
-        items.push(object.item(alloc, name)?)?;
+        add_item(&mut items, alloc, name, object)?;
     }
     Ok(items)
+}
+
+fn add_item(
+    items: &mut List<NameItem>,
+    alloc: Global,
+    name: &[u8],
+    object: &Kept,
+) -> Result<(), Memory>
+    ensures { OnOk result (items.new ≡ items.old ++ item_of name.now object.now ∷ []) }
+{
+    items.push(object.item(alloc, name)?)
 }

@@ -2,14 +2,14 @@
 ghost use Rattle.std.specs.Prelude.{◌≡◌, ◌<◌, ◌^◌, ◌++◌, IfOk, OnOk, OnErr};
 ghost use Rattle.swift_calls.specs.Account.{size_of};
 ghost use Rattle.swift_calls.specs.Bodies.{etag_of, etag_text, head_of, is_list, item_of, joined_etags, listed_in};
-ghost use Rattle.swift_store.specs.Shelf.{object_of, part, part_of_content};
+ghost use Rattle.swift_store.specs.Shelf.{part, part_of_content};
 
 use gate_base::{Bytes, Copying, List, Memory};
 use md5::{Digest, Md5};
 use slo_manifest::Segment;
 use std::alloc::Global;
 use std::marker::Model;
-use swift_calls::{Content, NameItem, Stored, StoredHead};
+use swift_calls::{Content, NameItem, StoredHead};
 
 /// An object without its name. Its ETag and its size are kept beside it, so that they are found once. Contracts see the
 /// object alone.
@@ -39,16 +39,16 @@ impl Model for Kept {
 
 impl Kept {
     /// An object whose ETag is known.
-    pub(crate) fn new(object: Stored, etag: Bytes) -> Kept
-        requires etag { etag ≡ etag_of object.content }
-        requires size { size_of object.content < 2 ^ 63 }
-        ensures { result ≡ object_of object }
+    pub(crate) fn new(content_type: Bytes, meta: List<Bytes>, content: Content, etag: Bytes) -> Kept
+        requires etag { etag ≡ etag_of content }
+        requires size { size_of content < 2 ^ 63 }
+        ensures { result ≡ record { content_type = content_type; meta = meta; content = content } }
     {
-        let size = object.content.size();
+        let size = content.size();
         Kept {
-            content_type: object.content_type,
-            meta: object.meta,
-            content: object.content,
+            content_type,
+            meta,
+            content,
             etag,
             size,
         }

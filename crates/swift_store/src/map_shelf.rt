@@ -11,7 +11,7 @@ use crate::folder::{
 };
 use crate::kept::Kept;
 use crate::{Shelf, StoreFault};
-use gate_base::{Bytes, Copying, List};
+use gate_base::{Bytes, List};
 use name_table::Table;
 use slo_manifest::Segment;
 use std::alloc::Global;
@@ -142,8 +142,13 @@ impl Shelf for MapShelf {
 
     #[tactic(auto, using(crate::proofs::Shelves::small_object))]
     fn put(&mut self, container: &[u8], object: Stored, etag: Bytes) -> Result<(), StoreFault> {
-        let name = object.name.copy()?;
-        let object = Kept::new(object, etag);
+        let Stored {
+            name,
+            content_type,
+            meta,
+            content,
+        } = object;
+        let object = Kept::new(content_type, meta, content, etag);
         Ok(put_object_in_map_shelf(&mut self.folders, container, name.as_slice(), object)?)
     }
 

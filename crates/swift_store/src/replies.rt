@@ -4,7 +4,7 @@ ghost use Rattle.std.specs.Option.{option_map};
 ghost use Rattle.swift_calls.specs.Account.{find_object};
 ghost use Rattle.swift_calls.specs.Bodies.{head_of, joined, outer_bytes, is_good_list};
 ghost use Rattle.swift_calls.specs.declared.calls.SwiftRequest.TheVariants as asked;
-ghost use Rattle.swift_store.specs.Shelf.{ShelfReads};
+ghost use Rattle.swift_store.specs.Shelf.{ShelfReads, part_of};
 ghost use Rattle.swift_store.specs.Listed.{segments_at};
 ghost use Rattle.swift_store.specs.Serving.{IsReply, TagsBody, TagsList, TagsWith, served_bounds, listed_part, shelf_reply_to_manifest, parted};
 ghost use Rattle.swift_calls.specs.declared.account.ReadList.{ReadList};
@@ -200,12 +200,29 @@ fn get_plain_from_shelf<S: Shelf>(
 {
     match served_bounds(range, head.size) {
         Some((from, end)) => {
-            let mut body = Bytes::new(alloc);
-            shelf.read(container, name, from, end, &mut body)?;
+            let body = own_bytes_on_shelf(shelf, alloc, container, name, from, end)?;
             Ok(SwiftReply::Bytes { head, body })
         }
         None => Ok(SwiftReply::Unsatisfiable),
     }
+}
+
+/// The own bytes of an object from one place to another.
+fn own_bytes_on_shelf<S: Shelf>(
+    shelf: &mut S,
+    alloc: Global,
+    container: &[u8],
+    name: &[u8],
+    from: u64,
+    end: u64,
+) -> Result<Bytes, StoreFault>
+    ensures reads { ShelfReads (λ account body. body ≡ part_of from end
+        (find_object account container.now name.now)) (S.model shelf.old) result
+        (S.model shelf.new) }
+{
+    let mut body = Bytes::new(alloc);
+    shelf.read(container, name, from, end, &mut body)?;
+    Ok(body)
 }
 
 /// Reads an object that lists segments, by its head. That they are there is tested before the range.
@@ -396,6 +413,20 @@ pub(crate) fn shelf_reply_to_call<S: Shelf>(
             marker.as_slice(),
             *limit,
         ),
+        _ => shelf_reply_to_object_call(alloc, shelf, call),
+    }
+}
+
+/// The reply to a call of an object. A call of a container doesn't come here.
+fn shelf_reply_to_object_call<S: Shelf>(
+    alloc: Global,
+    shelf: &mut S,
+    call: &SwiftRequest,
+) -> Result<SwiftReply, StoreFault>
+    ensures reads { ShelfReads (IsReply call.now) (S.model shelf.old) result (S.model shelf.new) }
+    ensures tags { IfOk result (λ reply. TagsBody call.now reply) }
+{
+    match call {
         SwiftRequest::PutObject {
             container,
             body,
@@ -420,5 +451,6 @@ pub(crate) fn shelf_reply_to_call<S: Shelf>(
         SwiftRequest::DeleteObject { container, name } => {
             shelf_reply_to_delete_object(shelf, container.as_slice(), name.as_slice())
         }
+        _ => Err(StoreFault::Memory),
     }
 }

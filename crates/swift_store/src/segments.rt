@@ -1,5 +1,5 @@
 //! Which segments an object may list, and whether those that it lists are there.
-ghost use Rattle.std.specs.Prelude.{◌≡◌, ◌^◌, IfOk, IsTrue, nat_lt, sum_by};
+ghost use Rattle.std.specs.Prelude.{◌≡◌, ◌^◌, true, false, None, Some, IfOk, IsTrue, nat_lt, sum_by};
 ghost use Rattle.std.specs.List.{list_all};
 ghost use Rattle.swift_calls.specs.Account.{find_object};
 ghost use Rattle.swift_calls.specs.Bodies.{found, is_good_list, is_shallow_there, may_be_listed};
@@ -22,7 +22,7 @@ fn is_shelved_as_listed(segment: &Segment, head: &StoredHead) -> bool
 }
 
 /// Whether the object of a segment lists segments, where it is there as the segment says.
-#[tactic(auto, using(crate::proofs::Listed::found_so, crate::proofs::Listed::found_other, crate::proofs::Listed::found_none))]
+#[tactic(auto, using(crate::proofs::Listed::found_as, crate::proofs::Listed::found_none))]
 fn is_segment_list_on_shelf<S: Shelf>(
     shelf: &mut S,
     segment: &Segment,
@@ -32,14 +32,20 @@ fn is_segment_list_on_shelf<S: Shelf>(
         result (S.model shelf.new) }
 {
     match shelf.head(segment.container.as_slice(), segment.name.as_slice())? {
-        Some(head) => {
-            if is_shelved_as_listed(segment, &head) {
-                Ok(Some(head.manifest))
-            } else {
-                Ok(None)
-            }
-        }
+        Some(head) => Ok(lists_by_head(segment, &head)),
         None => Ok(None),
+    }
+}
+
+/// Whether an object of this head lists segments, where it is as a segment says.
+fn lists_by_head(segment: &Segment, head: &StoredHead) -> Option<bool>
+    ensures so { is_shelved_as_listed segment.now head.now ≡ true → result ≡ Some head.now.manifest }
+    ensures other { is_shelved_as_listed segment.now head.now ≡ false → result ≡ None }
+{
+    if is_shelved_as_listed(segment, head) {
+        Some(head.manifest)
+    } else {
+        None
     }
 }
 

@@ -17,8 +17,8 @@ returns-then-not-starts_with c =
 
 pub loop-name-preserved : goal.loop-name-preserved
 loop-name-preserved c =
-    led_next (λ e. item_of e.0.items e.1) (λ e. starts_with nat_eq e.0.items c.args.prefix.now) c.args.limit c.into_iter-name-iterator.result c.loop-name.name-iterator c.next.new.self (c.in-Some.name.now, c.in-Some.object.now) c.loop-name.items c.push.new.self c.in_ok-item.field-0
-    c.loop-name.invariant c.in-Some.ensures.steps (λ e. c.if-len-limit.false (c.len.ensures ∙ e)) (ap (λ l. starts_with nat_eq l c.args.prefix.now) (sym c.deref.ensures.value) ∙ sym c.starts_with.ensures.value ∙ c.if-not-starts_with.false) c.in_ok-push.ensures.ok (c.in_ok-item.ensures ∙ ap (λ n. item_of n c.in-Some.object.now) c.deref-in-loop-name.ensures.value)
+    led_next (λ e. item_of e.0.items e.1) (λ e. starts_with nat_eq e.0.items c.args.prefix.now) c.args.limit c.into_iter-name-iterator.result c.loop-name.name-iterator c.next.new.self (c.in-Some.name.now, c.in-Some.object.now) c.loop-name.items c.add_item.new.items (item_of c.deref-in-loop-name.result.now c.in-Some.object.now)
+    c.loop-name.invariant c.in-Some.ensures.steps (λ e. c.if-len-limit.false (c.len.ensures ∙ e)) (ap (λ l. starts_with nat_eq l c.args.prefix.now) (sym c.deref.ensures.value) ∙ sym c.starts_with.ensures.value ∙ c.if-not-starts_with.false) c.in_ok-add_item.ensures (ap (λ n. item_of n c.in-Some.object.now) c.deref-in-loop-name.ensures.value)
 
 pub returns : goal.returns
 returns c =
