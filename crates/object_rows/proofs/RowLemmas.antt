@@ -1,19 +1,15 @@
 -- A row and its object.
-use Rattle.std.proofs.Common.{◌≡◌, ◌≢◌, true≢false, ◌∙◌, refl, sym, ap, subst, ℕ, ◌<◌, ◌≤◌, ◌^◌, Bool, true, false, List, [], ◌∷◌, length, Result, Ok, Err, nat_lt, sum_by, arith}
-use Rattle.std.specs.Prelude.{nat_le, bytes_eq, nat_eq, ◌&&◌}
+use Rattle.std.proofs.Common.{◌≡◌, ◌≢◌, true≢false, ◌∙◌, refl, sym, ap, subst, ℕ, ◌<◌, ◌≤◌, ◌^◌, true, false, List, [], length, Result, Ok, Err, nat_lt, sum_by, arith}
 use Rattle.std.specs.List.{list_all}
-use Rattle.std.proofs.lemmas.Bool.{and_parts, and_from, le-leb, eqb-true, eq-eqb}
+use Rattle.std.proofs.lemmas.Bool.{and_parts, and_from, eqb-true, eq-eqb}
 use Rattle.std.proofs.lemmas.Bool.Decides.{nat_tests}
 use Rattle.std.proofs.lemmas.Slice.Eq.{bytes_eq-Decides}
-use Rattle.std.proofs.lemmas.List.Elements.{All-weaker}
-use Rattle.std.proofs.lemmas.List.Sums.{list_all-from_AllPass}
-use Rattle.gate_base.specs.Fields.{is_field}
 use Rattle.slo_manifest.specs.declared.Segment.{Segment}
 use Rattle.slo_manifest.specs.declared.manifest.Form.TheVariants.{Put}
 use Rattle.slo_manifest.specs.declared.manifest.ManifestFault.{ManifestFault}
 use Rattle.slo_manifest.specs.declared.manifest.ManifestFault.TheVariants as manifest
 use Rattle.slo_manifest.specs.Manifest.{Reads}
-use Rattle.slo_manifest.specs.Segments.{is_manifest, is_segment}
+use Rattle.slo_manifest.specs.Segments.{is_manifest}
 use Rattle.slo_manifest.specs.Text.{manifest_text}
 use Rattle.slo_manifest.specs.Laws.{OneAnswer, TextReadsBack}
 use Rattle.swift_calls.specs.Account.{size_of}
@@ -24,8 +20,7 @@ use Rattle.swift_calls.specs.declared.account.Stored.{Stored}
 use Rattle.object_rows.specs.Pieces.{is_short, joined, pieces_of}
 use Rattle.object_rows.specs.Rows.{HasRow, IsRowContent, ReadsColumns, ReadsContent, ReadsList, ReadsRow, has_columns, row_of, kind_of, body_of}
 use Rattle.object_rows.specs.declared.row.Row.{Row}
-use Rattle.object_rows.specs.declared.row.RowFault.{RowFault}
-use Rattle.object_rows.specs.declared.row.RowFault.TheVariants.{Unread, Memory}
+use Rattle.object_rows.specs.declared.row.RowFault.TheVariants.{Unread}
 use Rattle.object_rows.proofs.PieceLemmas.{pieces_read, pieces_are_short}
 
 abbrev Answer : Type 0
@@ -113,6 +108,9 @@ other_kind kind body zero one = none
 
 pub object_has_row : (s : Stored) (kind : ℕ) (meta body : List ℕ) → s.meta ≡ pieces_of meta → ReadsContent kind body (Ok s.content) → HasRow s
 object_has_row s kind meta body is reads = record { content = reads.0; meta = ap (list_all is_short) is ∙ pieces_are_short meta }
+
+pub content_has_row : (s : Stored) (content : Content) (meta : List ℕ) → IsRowContent content → s.content ≡ content → s.meta ≡ pieces_of meta → HasRow s
+content_has_row s content meta has same is = record { content = subst IsRowContent (sym same) has; meta = ap (list_all is_short) is ∙ pieces_are_short meta }
 
 same_object : (s other : Stored) → s.name ≡ other.name → s.content_type ≡ other.content_type → s.meta ≡ other.meta → s.content ≡ other.content → s ≡ other
 same_object s other named typed pieces content = λ i. record { name = named i; content_type = typed i; meta = pieces i; content = content i }

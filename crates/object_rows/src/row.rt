@@ -1,5 +1,6 @@
 //! An object as the columns of a row.
-ghost use Rattle.std.specs.Prelude.{◌≡◌, ◌<◌, ◌&&◌, [], IfOk, bytes_eq, nat_eq, nat_lt, sum_by};
+ghost use Rattle.std.specs.Prelude.{◌≡◌, ◌<◌, ◌&&◌, ℕ, List, [], Ok, IfOk, bytes_eq, nat_eq, nat_lt, sum_by};
+ghost use Rattle.object_rows.specs.Pieces.{pieces_of};
 ghost use Rattle.swift_calls.specs.Bodies.{etag_of, etag_text};
 ghost use Rattle.object_rows.specs.Rows.{kind_of, body_of, has_columns, HasRow, IsRowContent, ReadsColumns, ReadsContent, ReadsList, ReadsRow, row_of};
 ghost use Rattle.object_rows.specs.declared.row.RowFault.TheVariants as faults;
@@ -46,7 +47,7 @@ impl From<AllocError> for RowFault {
 }
 
 /// What a row of the table of objects has beside its key.
-#[derive(Debug, Drop)]
+#[derive(Drop)]
 pub struct Row {
     pub kind: u64,
     pub content_type: Bytes,
@@ -54,19 +55,6 @@ pub struct Row {
     pub size: u64,
     pub hash: Bytes,
     pub body: Bytes,
-}
-
-impl Copying for Row {
-    fn copy(&self) -> Result<Row, Memory> {
-        Ok(Row {
-            kind: self.kind,
-            content_type: self.content_type.copy()?,
-            meta: self.meta.copy()?,
-            size: self.size,
-            hash: self.hash.copy()?,
-            body: self.body.copy()?,
-        })
-    }
 }
 
 /// The row of an object.
@@ -136,19 +124,39 @@ fn body_of(alloc: Global, content: &Content) -> Result<Bytes, Memory>
 pub fn from_row(alloc: Global, name: &[u8], row: &Row) -> Result<Stored, RowFault>
     ensures { ReadsRow name.now row.now result }
 {
-    let body = row.body.copy()?;
-    let content_type = row.content_type.as_slice();
-    let meta = row.meta.as_slice();
-    let object = object_of_columns(alloc, name, row.kind, content_type, meta, row.size, body)?;
-    let etag = etag_of(alloc, &object.content)?;
-    if etag.as_slice() == row.hash.as_slice() {
+    let object = object_of_row(alloc, name, row)?;
+    if has_hash(alloc, &object.content, row.hash.as_slice())? {
         Ok(object)
     } else {
         Err(RowFault::Unread)
     }
 }
 
-/// The same where the hash isn't looked at, by the other columns. The body is taken: the bytes of a plain object are not copied.
+/// Whether this is the hash of the row.
+fn has_hash(alloc: Global, content: &Content, hash: &[u8]) -> Result<bool, Memory>
+    ensures { IfOk result (λ has. has ≡ bytes_eq (etag_of content.now) hash.now) }
+{
+    let etag = etag_of(alloc, content)?;
+    Ok(etag.as_slice() == hash)
+}
+
+/// The same where the hash isn't looked at.
+fn object_of_row(alloc: Global, name: &[u8], row: &Row) -> Result<Stored, RowFault>
+    ensures { ReadsColumns name.now row.now result }
+{
+    let body = row.body.copy()?;
+    object_of_columns(
+        alloc,
+        name,
+        row.kind,
+        row.content_type.as_slice(),
+        row.meta.as_slice(),
+        row.size,
+        body,
+    )
+}
+
+/// The same by the other columns. The body is taken: the bytes of a plain object are not copied.
 pub fn object_of_columns(
     alloc: Global,
     name: &[u8],
@@ -167,18 +175,57 @@ pub fn object_of_columns(
       body = body;
     }) result }
 {
-    let object = Stored {
-        name: Bytes::from_slice(alloc, name)?,
-        content_type: Bytes::from_slice(alloc, content_type)?,
-        meta: pieces_of(alloc, meta)?,
-        content: content_of(alloc, kind, body)?,
-    };
-    let is_same = has_columns(alloc, &object, meta, size)?;
-    if is_same {
+    let content = content_of(alloc, kind, body)?;
+    object_with_content(alloc, name, content_type, meta, size, content)
+}
+
+/// The same by what the body stands for.
+fn object_with_content(
+    alloc: Global,
+    name: &[u8],
+    content_type: &[u8],
+    meta: &[u8],
+    size: u64,
+    content: Content,
+) -> Result<Stored, RowFault>
+    requires { IsRowContent content }
+    ensures { (kind : ℕ) (body : List ℕ) → ReadsContent kind body (Ok content)
+        → ReadsColumns name.now (record {
+          kind = kind;
+          content_type = content_type.now;
+          meta = meta.now;
+          size = size;
+          hash = [];
+          body = body;
+        }) result }
+{
+    let object = named_object(alloc, name, content_type, meta, content)?;
+    if has_columns(alloc, &object, meta, size)? {
         Ok(object)
     } else {
         Err(RowFault::Unread)
     }
+}
+
+/// An object of this name, type and content, whose metadata has the pieces of a text.
+fn named_object(
+    alloc: Global,
+    name: &[u8],
+    content_type: &[u8],
+    meta: &[u8],
+    content: Content,
+) -> Result<Stored, Memory>
+    ensures named { IfOk result (λ s. s.name ≡ name.now) }
+    ensures typed { IfOk result (λ s. s.content_type ≡ content_type.now) }
+    ensures pieces { IfOk result (λ s. s.meta ≡ pieces_of meta.now) }
+    ensures content { IfOk result (λ s. s.content ≡ content) }
+{
+    Ok(Stored {
+        name: Bytes::from_slice(alloc, name)?,
+        content_type: Bytes::from_slice(alloc, content_type)?,
+        meta: pieces_of(alloc, meta)?,
+        content,
+    })
 }
 
 /// Whether these are the metadata and the size of the object's row.

@@ -1,4 +1,4 @@
-use Rattle.std.proofs.Common.{◌∙◌, ap}
+use Rattle.std.proofs.Common.{◌∙◌}
 use Rattle.object_rows.proofs.PieceLemmas.{pieces_more, pieces_all, others_are_shorter, filled_where}
 use Rattle.object_rows.proofs.pieces.pieces_of.Goals as goal
 
