@@ -7,6 +7,7 @@ ghost use Rattle.store_cmd.specs.Report.{Reports, code_of, line_of};
 ghost use Rattle.store_cmd.specs.Run.{Performs, Runs, place_by, run_cursor};
 ghost use Rattle.store_cmd.specs.Words.{asked_of, file_of};
 ghost use Rattle.store_cmd.specs.declared.status.Status.{Status as how};
+ghost use Rattle.store_cmd.specs.declared.words.Asked.{Asked};
 
 use crate::lent_store::LentStore;
 use crate::refusals::Refusals;
@@ -94,10 +95,25 @@ fn run_store_as_asked<N: Line<NoCount>, S: Shelf>(
         (S.model shelf.old) (S.model shelf.new) }
 {
     let most = asked.connections;
-    let Ok(setup) = setup_of_lent_store(alloc, asked) else {
-        return Status::Memory;
-    };
-    match serve_lent_store(alloc, most, &setup, shelf, line) {
+    match setup_of_lent_store(alloc, asked) {
+        Ok(setup) => serve_with_setup(alloc, most, &setup, shelf, line),
+        Err(Memory) => Status::Memory,
+    }
+}
+
+/// Serves as many connections as `most` says, and tells how the run ended.
+fn serve_with_setup<N: Line<NoCount>, S: Shelf>(
+    alloc: Global,
+    most: u64,
+    setup: &Setup,
+    shelf: &mut S,
+    line: &mut N,
+) -> Status
+    ensures { (asked : Asked) → asked.connections ≡ most → setup.now.place ≡ place_by asked
+        → Performs asked result (N.model line.old) (N.model line.new) (S.model shelf.old)
+        (S.model shelf.new) }
+{
+    match serve_lent_store(alloc, most, setup, shelf, line) {
         Stopped::Done => Status::Done,
         Stopped::Line => Status::Line,
     }
