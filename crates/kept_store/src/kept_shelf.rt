@@ -154,7 +154,7 @@ impl<S: Alter + Drop> KeptShelf<S> {
             → Executes text.now (bound values.now) (state S.Store self.old.connection)
             (state S.Store self.new.connection) (Ok count)) }
     {
-        self.latest = None;
+        self.keep(None);
         match self.connection.execute(text, values) {
             Ok(count) => Ok(count),
             Err(error) => Err(self.refused(error)),
@@ -297,17 +297,24 @@ impl<S: Alter + Drop> KeptShelf<S> {
         }
     }
 
-    /// Reads the object of that name, where it is there.
+    /// Keeps the object that was read last, or none.
+    fn keep(&mut self, latest: Option<Latest>)
+        ensures latest { self.new.latest ≡ latest }
+        ensures faults { self.new.faults ≡ self.old.faults }
+        ensures connection { self.new.connection ≡ self.old.connection }
+    {
+        self.latest = latest;
+    }
+
+    /// Reads the object of that name, where it is there, and keeps it.
     fn look_up(&mut self, container: &[u8], name: &[u8]) -> Result<(), StoreFault>
         ensures { CountsStoreFaults self.old.faults self.new.faults result }
     {
-        self.latest = None;
-        let Some(row) = self.row(statements::OBJECT, params![container, name])? else {
-            return Ok(());
-        };
-        match latest_in(self.alloc, container, name, &row) {
-            Ok(latest) => {
-                self.latest = Some(latest);
+        self.keep(None);
+        let row = self.row(statements::OBJECT, params![container, name])?;
+        match found_in(self.alloc, container, name, row) {
+            Ok(found) => {
+                self.keep(found);
                 Ok(())
             }
             Err(fault) => Err(self.unread(fault)),
@@ -337,6 +344,19 @@ fn fault_of_columns(error: Error) -> RowFault {
         RowFault::Memory
     } else {
         RowFault::Unread
+    }
+}
+
+/// The object of a row, where there is one.
+fn found_in(
+    alloc: Global,
+    container: &[u8],
+    name: &[u8],
+    row: Option<sqlite::Row>,
+) -> Result<Option<Latest>, RowFault> {
+    match row {
+        Some(row) => Ok(Some(latest_in(alloc, container, name, &row)?)),
+        None => Ok(None),
     }
 }
 
