@@ -1,12 +1,12 @@
-//! A shelf over a file.
+//! The file that keeps an account.
 
-use crate::kept_shelf::KeptShelf;
 use sqlite::{Connection, Error, ErrorCode, File, FileStore};
 use std::{fs, str};
 use swift_store::StoreFault;
 
-/// An account in a file.
-pub type FileShelf = KeptShelf<FileStore<File>>;
+/// A connection to a file. That it is one of SQLite's stores is proved anew in each function that calls a generic one for it,
+/// which is dear: so there is to be one such call, of a function that is generic over the connection and does all.
+pub type FileConnection = Connection<FileStore<File>>;
 
 /// Why a file can't be opened.
 #[derive(Clone, Copy, Debug, PartialEq, Eq)]
@@ -25,9 +25,9 @@ pub enum FileFault {
     CannotOpen,
 }
 
-/// The shelf over the file of this path, which is made where there is none. It is refused where it has more bytes than `most`:
+/// A connection to the file of this path, which is made where there is none. It is refused where it has more bytes than `most`:
 /// an open takes the bodies of all objects into memory together.
-pub fn open_file_shelf(rt: &HostRuntime, path: &[u8], most: u64) -> Result<FileShelf, FileFault> {
+pub fn open_file(rt: &HostRuntime, path: &[u8], most: u64) -> Result<FileConnection, FileFault> {
     let Ok(path) = str::from_utf8(path) else {
         return Err(FileFault::NotText);
     };
@@ -35,14 +35,22 @@ pub fn open_file_shelf(rt: &HostRuntime, path: &[u8], most: u64) -> Result<FileS
         return Err(FileFault::TooLarge);
     }
     match Connection::open_with_sums(rt, path) {
-        Ok(connection) => adopt_file(rt, connection),
+        Ok(connection) => Ok(connection),
         Err(error) => Err(fault_of_open(error)),
     }
 }
 
 /// Ends what stands over a file: the log beside it is written into it.
-pub fn close_file_shelf(shelf: FileShelf) {
-    let _ = shelf.release().close();
+pub fn close_file(connection: FileConnection) {
+    let _ = connection.close();
+}
+
+/// Why a file that is open keeps no account, by the fault of `KeptShelf::adopt`.
+pub fn fault_of_adopted_file(fault: StoreFault) -> FileFault {
+    match fault {
+        StoreFault::Memory => FileFault::Memory,
+        StoreFault::Failed => FileFault::NoDatabase,
+    }
 }
 
 /// Whether there is a file of more bytes than that.
@@ -50,17 +58,6 @@ fn is_larger(rt: &HostRuntime, path: &str, most: u64) -> bool {
     match fs::metadata(rt, path) {
         Ok(told) => told.len() > most,
         Err(_) => false,
-    }
-}
-
-fn adopt_file(
-    rt: &HostRuntime,
-    connection: Connection<FileStore<File>>,
-) -> Result<FileShelf, FileFault> {
-    match KeptShelf::adopt(rt.alloc(), connection) {
-        Ok(shelf) => Ok(shelf),
-        Err(StoreFault::Memory) => Err(FileFault::Memory),
-        Err(StoreFault::Failed) => Err(FileFault::NoDatabase),
     }
 }
 

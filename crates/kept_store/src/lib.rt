@@ -5,5 +5,6 @@ mod file;
 mod kept_shelf;
 mod statements;
 
-pub use file::{FileFault, FileShelf, close_file_shelf, open_file_shelf};
+pub use file::{FileConnection, FileFault, close_file, fault_of_adopted_file, open_file};
 pub use kept_shelf::KeptShelf;
+pub use sqlite::{Alter, Connection};

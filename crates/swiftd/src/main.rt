@@ -7,7 +7,10 @@ use environment::{
     error_log, idle_limit, machine_memory, report_variable_fault, words,
 };
 use gate_base::{Line, List, MemLine, NoCount, StdSink};
-use kept_store::{FileFault, FileShelf, close_file_shelf, open_file_shelf};
+use kept_store::{
+    Alter, Connection, FileConnection, FileFault, KeptShelf, close_file, fault_of_adopted_file,
+    open_file,
+};
 use std::process::ExitCode;
 use store_cmd::{run_store, shelf_file};
 use swift_store::{MapShelf, Shelf};
@@ -55,10 +58,28 @@ fn start(rt: &HostRuntime) -> Result<u8, SetupFault> {
 
 /// A run over the clients that come, from the shelf of a file. At its end what stands in the log beside the file is written into it.
 fn serve_file(rt: &HostRuntime, words: &[String], path: &[u8]) -> Result<u8, SetupFault> {
-    let mut shelf = shelf_in_file(rt, path)?;
+    let connection = connection_to_file(rt, path)?;
+    match serve_connection(rt, words, connection) {
+        Ok((status, connection)) => {
+            close_file(connection);
+            status
+        }
+        Err(fault) => Err(fault),
+    }
+}
+
+/// The same over any connection, which is given back. It is the one call for which a file is proved to be a store of SQLite's.
+fn serve_connection<S: Alter + Drop>(
+    rt: &HostRuntime,
+    words: &[String],
+    connection: Connection<S>,
+) -> Result<(Result<u8, SetupFault>, Connection<S>), SetupFault> {
+    let mut shelf = match KeptShelf::adopt(rt.alloc(), connection) {
+        Ok(shelf) => shelf,
+        Err(fault) => return Err(file_setup_fault(fault_of_adopted_file(fault))),
+    };
     let status = serve(rt, words, &mut shelf);
-    close_file_shelf(shelf);
-    status
+    Ok((status, shelf.release()))
 }
 
 /// A run over the clients that come. The shelf is there before the program listens. What is kept for slow clients is sent before
@@ -80,14 +101,15 @@ fn run_over<N: Line<NoCount>, S: Shelf>(
     Ok(run_store(rt.alloc(), words, line, &mut report, shelf))
 }
 
-/// The shelf over the file of this path, which is made where there is none. One of more than half of the machine's memory is refused.
-fn shelf_in_file(rt: &HostRuntime, path: &[u8]) -> Result<FileShelf, SetupFault> {
+/// A connection to the file of this path, which is made where there is none. One of more than half of the machine's memory is
+/// refused.
+fn connection_to_file(rt: &HostRuntime, path: &[u8]) -> Result<FileConnection, SetupFault> {
     let most = match machine_memory(rt) {
         Some(bytes) => bytes / 2,
         None => u64::MAX,
     };
-    match open_file_shelf(rt, path, most) {
-        Ok(shelf) => Ok(shelf),
+    match open_file(rt, path, most) {
+        Ok(connection) => Ok(connection),
         Err(fault) => Err(file_setup_fault(fault)),
     }
 }
