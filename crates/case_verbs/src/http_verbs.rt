@@ -13,8 +13,8 @@
 //! The keys are that of the Amazon S3 API Reference's examples, and the region is `us-east-1`. `verify MOMENT` tells who sent
 //! the first request, or why it isn't taken, at a moment in seconds since the beginning of 1970. `canonical NAMES PAYLOAD` is
 //! its canonical request, with `;` between the signed names. `is-date-time TEXT` tells whether a time has the form of one.
-//! `hmac KEY` is the code of the bytes by a key in hexadecimal digits. `secret ID` is the secret of an id, by a copy of the keys
-//! that the bytes give. `first [CALL]` signs the first request of a line, while its call of that number fails, and
+//! `hmac KEY` is the code of the bytes by a key in hexadecimal digits. `secret ID` is the secret of an id, by the keys that the
+//! bytes give. `first [CALL]` signs the first request of a line, while its call of that number fails, and
 //! `first-of-none` one of a line of no connection. `verify-query MOMENT` tells of a presigned request what `verify` does, and
 //! `presign MOMENT SECONDS` the URL for a request. `trial-input NUMBER REQUESTS` tells the bytes of so many requests of a trial.
 pub(crate) mod fronts;

@@ -1,10 +1,10 @@
 //! The verbs of the S3 layers: names, the limits of the machine, bodies, the words of the command line and the lists of
 //! buckets. What requests mean is in `s3_verbs_meaning`, and pages are in `s3_verbs_pages`.
 use case_text::{
-    Fault, Told, bytes_of_escaped_text, copy_of_bytes, cut_text, tell_copy_of_value,
-    tell_owned_value, tell_value, words_of_text,
+    Fault, Told, bytes_of_escaped_text, copy_of_bytes, cut_text, tell_owned_value, tell_value,
+    words_of_text,
 };
-use gate_base::{Caller, Copying, Memory, cut};
+use gate_base::{Caller, cut};
 use gateway_cli::read_words;
 use s3_bodies::{read_completion, read_delete, read_location};
 use s3_machine::{
@@ -39,7 +39,7 @@ pub(crate) fn tell_s3_verb(alloc: Global, verb: &str, text: &str, given: &[u8], 
 
 fn tell_command(alloc: Global, text: &str, told: &mut Told) {
     let words = words_of_text(alloc, text, told);
-    tell_s3_reading(read_words(alloc, words.as_slice()), told);
+    tell_s3_reading(&read_words(alloc, words.as_slice()), told);
 }
 
 /// The verbs that take bytes: those of the text, with its escapes read, and behind them those of the lines `>`.
@@ -52,33 +52,42 @@ fn tell_s3_bytes_verb(alloc: Global, verb: &str, bytes: &[u8], told: &mut Told) 
         "meta-value" => tell_value(&is_meta_value(bytes), told),
         "etag" => tell_owned_value(copy_of_bytes(alloc, &body_etag(bytes), told), told),
         "meta" | "proper-meta" => tell_metadata_of_pairs(alloc, verb, bytes, told),
-        _ => tell_s3_text_verb(alloc, verb, bytes, told),
+        _ => tell_s3_name_verb(alloc, verb, bytes, told),
     }
 }
 
-fn tell_s3_text_verb(alloc: Global, verb: &str, bytes: &[u8], told: &mut Told) {
+fn tell_s3_name_verb(alloc: Global, verb: &str, bytes: &[u8], told: &mut Told) {
     match verb {
-        "bucket" => tell_s3_reading(BucketName::read(alloc, bytes), told),
-        "key" => tell_s3_reading(Key::read(alloc, bytes), told),
-        "encode-path" => tell_s3_reading(encode_path(alloc, bytes), told),
-        "encode-all" => tell_s3_reading(encode_all(alloc, bytes), told),
-        "decode" => tell_s3_reading(decode(alloc, bytes), told),
-        "query" => tell_s3_reading(Query::read(alloc, bytes), told),
-        "target" => tell_s3_reading(Target::read(alloc, bytes), told),
-        "location" => tell_s3_reading(read_location(alloc, bytes), told),
-        "completion" => tell_s3_reading(read_completion(alloc, bytes), told),
-        "delete" => tell_s3_reading(read_delete(alloc, bytes), told),
+        "bucket" => tell_s3_reading(&BucketName::read(alloc, bytes), told),
+        "key" => tell_s3_reading(&Key::read(alloc, bytes), told),
+        "query" => tell_s3_reading(&Query::read(alloc, bytes), told),
+        "target" => tell_s3_reading(&Target::read(alloc, bytes), told),
+        _ => tell_s3_escapes_verb(alloc, verb, bytes, told),
+    }
+}
+
+fn tell_s3_escapes_verb(alloc: Global, verb: &str, bytes: &[u8], told: &mut Told) {
+    match verb {
+        "encode-path" => tell_s3_reading(&encode_path(alloc, bytes), told),
+        "encode-all" => tell_s3_reading(&encode_all(alloc, bytes), told),
+        "decode" => tell_s3_reading(&decode(alloc, bytes), told),
+        _ => tell_s3_body_verb(alloc, verb, bytes, told),
+    }
+}
+
+fn tell_s3_body_verb(alloc: Global, verb: &str, bytes: &[u8], told: &mut Told) {
+    match verb {
+        "location" => tell_s3_reading(&read_location(alloc, bytes), told),
+        "completion" => tell_s3_reading(&read_completion(alloc, bytes), told),
+        "delete" => tell_s3_reading(&read_delete(alloc, bytes), told),
         _ => told.note_fault(Fault::Unread("no such verb")),
     }
 }
 
-/// Tells a copy of what was read, or that it wasn't read.
-fn tell_s3_reading<T: Copying + Debug + Drop, F: Debug + Drop>(
-    read: Result<T, F>,
-    told: &mut Told,
-) {
-    match &read {
-        Ok(value) => tell_copy_of_value(value, told),
+/// Tells what was read, or why nothing was.
+fn tell_s3_reading<T: Debug, F: Debug>(read: &Result<T, F>, told: &mut Told) {
+    match read {
+        Ok(value) => tell_value(value, told),
         Err(fault) => tell_value(fault, told),
     }
 }
@@ -93,7 +102,7 @@ fn tell_metadata_of_pairs(alloc: Global, verb: &str, bytes: &[u8], told: &mut To
         tell_value(&is_proper_meta(&meta), told);
     } else {
         told.say(added.text());
-        tell_copy_of_value(&meta, told);
+        tell_value(&meta, told);
     }
 }
 
@@ -116,9 +125,7 @@ fn tell_may_read(text: &str, told: &mut Told) {
     let (caller, list) = cut_text(text, ' ');
     let caller = caller_of_word(caller, told);
     let list = acl_of_word(list, told);
-    if let Some(caller) = told.keep_made(caller.copy()) {
-        tell_value(&may_read(caller, list), told);
-    }
+    tell_value(&may_read(caller, list), told);
 }
 
 /// `GIVEN ACL`, the bucket's list last. `-` is none.
@@ -143,16 +150,12 @@ pub(crate) fn caller_of_word(word: &str, told: &mut Told) -> Caller {
     }
 }
 
-/// A copy of the access control list of that name.
+/// The access control list of that name.
 pub(crate) fn acl_of_word(word: &str, told: &mut Told) -> Acl {
-    let copied = match word {
-        "private" => Acl::Private.copy(),
-        "public-read" => Acl::PublicRead.copy(),
-        _ => Err(Memory),
-    };
-    match copied {
-        Ok(acl) => acl,
-        Err(_) => {
+    match word {
+        "private" => Acl::Private,
+        "public-read" => Acl::PublicRead,
+        _ => {
             told.note_fault(Fault::Unread("no access control list"));
             Acl::Private
         }

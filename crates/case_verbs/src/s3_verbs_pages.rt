@@ -2,13 +2,15 @@
 //! has four words, of which the last may have spaces: `MOMENT NUMBER WORD TEXT`. Of a bucket they are `CREATED 0 - NAME`; of an
 //! object `MODIFIED SIZE ETAG KEY`, and of a common prefix `0 0 - PREFIX`; of an upload `STARTED ID - KEY`; of a part
 //! `MODIFIED SIZE NUMBER ETAG`. Each field `key` of a deletion is one of its keys.
+ghost use Rattle.std.specs.Prelude.{◌≢◌, ◌<◌};
+ghost use Rattle.gate_base.specs.Told.{moment_limit};
+ghost use Rattle.s3_machine.specs.Shown.{IsShowable};
+
 use crate::s3_verbs::acl_of_word;
 use crate::s3_verbs_message::message_of_case;
 use crate::shown::is_shown_reply;
-use case_text::{
-    Fault, Told, copy_of_bytes, cut_text, number_of_text, tell_copy_of_value, text_of_bytes,
-};
-use gate_base::{Bytes, Caller, Copying, List, MOMENT_LIMIT, Pair, cut, drop};
+use case_text::{Fault, Told, copy_of_bytes, cut_text, number_of_text, tell_value, text_of_bytes};
+use gate_base::{Bytes, Caller, List, MOMENT_LIMIT, Pair, cut, drop};
 use http_wire::{Message, first_value, has_header};
 use s3_machine::{
     Asked, BucketItem, Code, Item, ItemHead, Label, ObjectHead, PartItem, Reply, UploadItem,
@@ -101,7 +103,7 @@ fn tell_page_of_shown_reply(
     requires moment { label.now.moment < moment_limit }
 {
     if let Some(page) = told.keep_made(page(alloc, reply, label, resource)) {
-        tell_copy_of_value(&page, told);
+        tell_value(&page, told);
     }
 }
 
@@ -196,14 +198,12 @@ fn metadata_of_fields(alloc: Global, fields: &[Pair], told: &mut Told) -> Meta {
     meta
 }
 
-/// A copy of the code of that name.
+/// The code of that name.
 fn code_of_fields(alloc: Global, fields: &[Pair], told: &mut Told) -> Code {
     let name = text_in_verb_field(fields, b"code", told);
     for code in &CODES {
         if is_code_named(alloc, code, name) {
-            if let Ok(copied) = code.copy() {
-                return copied;
-            }
+            return *code;
         }
     }
     told.note_fault(Fault::Unread("no such code"));

@@ -1,6 +1,5 @@
 //! The settings of the service by which requests are understood.
 use case_text::{Told, copy_of_bytes};
-use gate_base::Copying;
 use s3_machine::Settings;
 use std::alloc::Global;
 
@@ -13,7 +12,7 @@ pub const USUAL_LEAST_PART: u64 = 5_242_880;
 /// The most bytes of a body, where the words give none: 16 MiB.
 pub const USUAL_LARGEST_BODY: u64 = 16_777_216;
 
-/// A copy of the settings of a region, of these sizes, extended or not.
+/// The settings of a region, of these sizes, extended or not.
 pub fn settings_of_region(
     alloc: Global,
     region: &[u8],
@@ -22,11 +21,10 @@ pub fn settings_of_region(
     extended: bool,
     told: &mut Told,
 ) -> Option<Settings> {
-    let settings = Settings {
+    Some(Settings {
         region: copy_of_bytes(alloc, region, told),
         least_part,
         largest_body,
         extended,
-    };
-    told.keep_made(settings.copy())
+    })
 }

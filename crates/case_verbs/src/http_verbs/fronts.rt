@@ -2,9 +2,9 @@
 use crate::talk::Talk;
 use case_text::{
     Fault, LARGE, Told, copy_of_bytes, cut_text, line_of_one_connection, number_of_text,
-    numbers_of_text, tell_owned_value, tell_value,
+    numbers_of_text, tell_value,
 };
-use gate_base::{Copying, List, MemLine, Memory, drop};
+use gate_base::{List, MemLine, drop};
 use http_wire::{Got, ReadFault};
 use std::alloc::Global;
 
@@ -127,8 +127,9 @@ fn tell_fronts(talk: &mut Talk, way: Way, told: &mut Told) {
 
 /// Tells the next answer of the reader. Whether it is a request.
 fn tell_next_front(talk: &mut Talk, way: Way, told: &mut Told) -> bool {
-    let got = talk.next_front();
+    let mut got = talk.next_front();
     talk.tell_written(told);
+    count_place_behind(&mut got, way.before);
     tell_front_by_way(&got, way, told);
     let is_request = matches!(got, Ok(Got::Request(_)));
     drop(got);
@@ -141,21 +142,16 @@ fn tell_front_by_way(got: &Result<Got, ReadFault>, way: Way, told: &mut Told) {
         Ok(Got::Request(message)) if way.brief => {
             tell_value(&(message.headers.len(), message.body.len()), told);
         }
-        Ok(front) => tell_owned_value(front_counted_behind(front, way.before), told),
-        Err(_) => tell_value(got, told),
+        _ => tell_value(got, told),
     }
 }
 
-/// A copy whose place is counted behind the bytes that stand before those of the case.
-fn front_counted_behind(got: &Got, before: u64) -> Result<Got, Memory> {
+/// Counts the place that an answer names behind the bytes that stand before those of the case.
+fn count_place_behind(got: &mut Result<Got, ReadFault>, before: u64) {
     match got {
-        Got::CutShort(place) => Ok(Got::CutShort(place.saturating_sub(before))),
-        Got::Refused { kind, place, head } if before != 0 => Ok(Got::Refused {
-            kind: *kind,
-            place: place.saturating_sub(before),
-            head: *head,
-        }),
-        _ => got.copy(),
+        Ok(Got::CutShort(place)) => *place = place.saturating_sub(before),
+        Ok(Got::Refused { place, .. }) => *place = place.saturating_sub(before),
+        _ => {}
     }
 }
 

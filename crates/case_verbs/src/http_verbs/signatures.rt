@@ -6,7 +6,7 @@ use case_text::{
     Fault, KEY_TEXT, Told, copy_of_bytes, cut_text, hex_bytes, line_of_one_connection,
     number_of_text, numbers_of_text, tell_bytes_by_lines, tell_owned_value, tell_value,
 };
-use gate_base::{Bytes, Copying, List, MemLine, NoCount, drop};
+use gate_base::{Bytes, List, MemLine, NoCount, drop};
 use http_wire::{Got, Message, ReadFault};
 use s3_names::Target;
 use sign_cmd::sign_first;
@@ -19,18 +19,9 @@ pub(crate) const SECRET: &[u8] = b"wJalrXUtnFEMI/K7MDENG/bPxRfiCYEXAMPLEKEY";
 /// The most bytes that a read gives where the first request of a line is signed.
 const PIECE: u64 = 64;
 
-/// Tells what a verb gives.
-pub(crate) fn tell_signature_verb(
-    alloc: Global,
-    verb: &str,
-    text: &str,
-    given: &[u8],
-    told: &mut Told,
-) {
+/// Tells what a verb gives that isn't of a request which is read.
+pub(crate) fn tell_signing(alloc: Global, verb: &str, text: &str, given: &[u8], told: &mut Told) {
     match verb {
-        "verify" | "canonical" | "verify-query" | "presign" => {
-            tell_signing_of_request(alloc, verb, text, given, told);
-        }
         "is-date-time" => tell_value(&is_date_time(text.as_bytes()), told),
         "hmac" => tell_hmac(alloc, text, given, told),
         "secret" => tell_secret(alloc, text, given, told),
@@ -60,7 +51,14 @@ fn tell_hmac(alloc: Global, text: &str, given: &[u8], told: &mut Told) {
     tell_value(&hmac(key.as_slice(), given), told);
 }
 
-fn tell_signing_of_request(alloc: Global, verb: &str, text: &str, given: &[u8], told: &mut Told) {
+/// Tells what a verb gives of the first request.
+pub(crate) fn tell_signing_of_request(
+    alloc: Global,
+    verb: &str,
+    text: &str,
+    given: &[u8],
+    told: &mut Told,
+) {
     if let Some(mut talk) = Talk::open_over_bytes(alloc, given, told) {
         let got = talk.next_front();
         tell_signing_of_front(alloc, verb, text, &got, told);
@@ -145,17 +143,15 @@ fn tell_canonical(alloc: Global, text: &str, message: &Message, target: &Target,
 fn tell_secret(alloc: Global, id: &str, given: &[u8], told: &mut Told) {
     let read = Keys::read(alloc, given);
     match &read {
-        Ok(keys) => tell_copied_secret(alloc, keys, id, told),
+        Ok(keys) => tell_secret_of_keys(alloc, keys, id, told),
         Err(_) => tell_value(&read, told),
     }
 }
 
-fn tell_copied_secret(alloc: Global, keys: &Keys, id: &str, told: &mut Told) {
-    if let Some(keys) = told.keep_made(keys.copy()) {
-        match keys.secret(id.as_bytes()) {
-            Some(secret) => tell_owned_value(Bytes::from_slice(alloc, secret), told),
-            None => told.say("no such id\n"),
-        }
+fn tell_secret_of_keys(alloc: Global, keys: &Keys, id: &str, told: &mut Told) {
+    match keys.secret(id.as_bytes()) {
+        Some(secret) => tell_owned_value(Bytes::from_slice(alloc, secret), told),
+        None => told.say("no such id\n"),
     }
 }
 

@@ -6,8 +6,7 @@ use crate::swift_verbs::start::start_with_large_objects;
 use crate::swift_verbs::wire::{place_of_all_calls, read_next_call};
 use crate::talk::Talk;
 use case_text::{
-    Fault, Told, cut_text, number_of_text, numbers_of_text, tell_copy_of_read, tell_owned_value,
-    tell_value,
+    Fault, Told, cut_text, number_of_text, numbers_of_text, tell_owned_value, tell_value,
 };
 use gate_base::{Counted, List, drop};
 use http_wire::Message;
@@ -198,7 +197,7 @@ fn tell_reply_to_call<W: Swift>(store: &mut W, request: &SwiftRequest, told: &mu
     requires { Fit request.now }
 {
     let reply = store.call(request);
-    tell_copy_of_read(&reply, told);
+    tell_value(&reply, told);
     drop(reply);
 }
 

@@ -5,9 +5,9 @@ use case_text::{
     Fault, Told, bytes_of_escaped_text, copy_of_bytes, cut_text, number_of_text, numbers_of_text,
     tell_owned_value, tell_value, text_of_bytes,
 };
-use gate_base::{Copying, List, drop};
+use gate_base::{List, Memory, drop};
 use slo_manifest::{
-    Form, ManifestFault, Segment, cover, is_manifest, is_segment, joined_etag, read, write,
+    Cover, Form, ManifestFault, Segment, cover, is_manifest, is_segment, joined_etag, read, write,
 };
 use std::alloc::Global;
 
@@ -91,7 +91,7 @@ fn tell_manifest_as_read(
     match read {
         Ok(segments) => {
             if verb == "manifest" {
-                tell_owned_value(segments.copy(), told);
+                tell_value(read, told);
             } else {
                 tell_value(&segments.len(), told);
             }
@@ -117,7 +117,8 @@ fn tell_cover(sizes: &[u64], from: u64, to: u64, told: &mut Told) {
     if to < from || total_segment_bytes(sizes) <= to {
         return told.note_fault(Fault::Unread("a range that isn't in the segments"));
     }
-    tell_owned_value(cover(sizes, from, to).copy(), told);
+    let found: Result<Cover, Memory> = Ok(cover(sizes, from, to));
+    tell_value(&found, told);
 }
 
 /// The bytes of segments of these sizes; where they are more than a `u64` tells, its greatest value.

@@ -1,9 +1,8 @@
 //! Tags, and packs of metadata.
 use case_text::{
-    Fault, Told, copy_of_bytes, number_of_text, tell_copy_of_read, tell_owned_value, tell_value,
-    text_of_bytes,
+    Fault, Told, copy_of_bytes, number_of_text, tell_owned_value, tell_value, text_of_bytes,
 };
-use gate_base::{Copying, List, drop};
+use gate_base::{List, drop};
 use s3_names::Meta;
 use std::alloc::Global;
 use swift_marks::{Tag, pack, unpack};
@@ -11,7 +10,7 @@ use swift_marks::{Tag, pack, unpack};
 /// Tells a tag, and its text.
 pub(crate) fn tell_tag(alloc: Global, given: &[u8], told: &mut Told) {
     let read = Tag::read(alloc, given);
-    tell_copy_of_read(&read, told);
+    tell_value(&read, told);
     if let Ok(tag) = &read {
         tell_text_of_tag(alloc, tag, told);
     }
@@ -89,8 +88,6 @@ pub(crate) fn tell_unpacked_metadata(alloc: Global, given: &[u8], told: &mut Tol
 }
 
 fn tell_metadata_and_pieces(alloc: Global, meta: &Meta, told: &mut Told) {
-    if let Some(copied) = told.keep_made(meta.copy()) {
-        tell_value(&copied.pairs(), told);
-        tell_owned_value(pack(alloc, &copied), told);
-    }
+    tell_value(&meta.pairs(), told);
+    tell_owned_value(pack(alloc, meta), told);
 }

@@ -8,11 +8,11 @@ ghost use Rattle.swift_requests.specs.Place.{IsPlace};
 use crate::swift_verbs::wire::read_next_call;
 use crate::talk::Talk;
 use case_text::{Fault, Told};
-use gate_base::{Bytes, List, Memory, drop};
+use gate_base::{Bytes, List, Memory};
 use planned_swift::{Account, Container, MemSwift};
 use slo_manifest::{Form, Segment, read};
 use std::alloc::Global;
-use swift_calls::{Content, ReadList, Stored, SwiftRequest};
+use swift_calls::{Content, ReadList, Stored, SwiftRequest, drop_request};
 use swift_requests::Place;
 
 /// An account in the order of its names, with objects that aren't too large.
@@ -78,7 +78,7 @@ impl Start {
                 put_container_with_object(alloc, &mut self.account, container, object)
             }
             other => {
-                drop(other);
+                drop_request(other);
                 Err(Fault::Unread("no large object"))
             }
         }

@@ -5,14 +5,13 @@ ghost use Rattle.swift_requests.specs.Place.{IsPlace};
 
 use crate::talk::Talk;
 use case_text::{
-    Fault, Told, bytes_of_escaped_text, copy_of_bytes, tell_copy_of_read, tell_owned_value,
-    tell_value, text_of_bytes,
+    Fault, Told, bytes_of_escaped_text, copy_of_bytes, tell_owned_value, tell_value, text_of_bytes,
 };
 use gate_base::{Bytes, List, Memory, drop};
 use http_answers::answer_end;
 use http_wire::{Got, Message};
 use std::alloc::Global;
-use swift_calls::{SwiftRequest, is_fit};
+use swift_calls::{SwiftRequest, drop_request, is_fit};
 use swift_replies::{WireFault, read_answer};
 use swift_requests::{Place, has_account_token, is_place, read_call, write_call};
 
@@ -101,7 +100,7 @@ fn tell_call_and_request(
 )
     requires { IsPlace place.now }
 {
-    tell_copy_of_read(read, told);
+    tell_value(read, told);
     if let Ok(call) = read {
         if is_fit(call) {
             tell_owned_value(request_of_call(alloc, place, call), told);
@@ -146,7 +145,7 @@ fn tell_answer_at_place(alloc: Global, place: &Place, given: &[u8], told: &mut T
 
 fn tell_answer_to_call(alloc: Global, call: &SwiftRequest, answer: &[u8], told: &mut Told) {
     let read = read_answer(alloc, call, answer);
-    tell_copy_of_read(&read, told);
+    tell_value(&read, told);
     drop(read);
 }
 
@@ -165,7 +164,7 @@ fn call_of_request_bytes(
 /// Tells where the first answer ends.
 pub(crate) fn tell_answer_end(alloc: Global, text: &str, given: &[u8], told: &mut Told) {
     let end = answer_end(alloc, text == "head", given);
-    tell_copy_of_read(&end, told);
+    tell_value(&end, told);
     drop(end);
 }
 
@@ -176,7 +175,7 @@ pub(crate) fn tell_fit_of_put(alloc: Global, text: &str, told: &mut Told) {
     };
     let put = put_call_with_piece(alloc, content_type, piece, told);
     tell_value(&is_fit(&put), told);
-    drop(put);
+    drop_request(put);
 }
 
 fn put_call_with_piece(
