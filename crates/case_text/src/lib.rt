@@ -27,7 +27,5 @@ pub use pieces::{
 pub use texts::{
     cut_text, is_line_passed_over, number_of_text, numbers_of_text, text_of_bytes, words_of_text,
 };
-pub use told::{
-    Told, copy_of_bytes, tell_copy_of_read, tell_copy_of_value, tell_owned_value, tell_value,
-};
+pub use told::{Told, copy_of_bytes, tell_owned_value, tell_value};
 pub use written::{tell_bytes_by_lines, tell_text_by_lines};

@@ -1,6 +1,6 @@
 //! What came, as text, and the first fault that came meanwhile.
 use crate::Fault;
-use gate_base::{Bytes, Copying, List};
+use gate_base::{Bytes, List};
 use std::alloc::Global;
 use std::fmt::{Debug, Write};
 
@@ -111,24 +111,6 @@ pub fn tell_value<T: Debug>(value: &T, told: &mut Told) {
 /// The same, of a value that ends with it.
 pub fn tell_owned_value<T: Debug + Drop>(made: T, told: &mut Told) {
     tell_value(&made, told);
-}
-
-/// Tells a copy of what was read, or why it wasn't.
-pub fn tell_copy_of_read<T: Copying + Debug + Drop, E: Debug>(
-    read: &Result<T, E>,
-    told: &mut Told,
-) {
-    match read {
-        Ok(value) => tell_owned_value(value.copy(), told),
-        Err(_) => tell_value(read, told),
-    }
-}
-
-/// Tells a copy of a value.
-pub fn tell_copy_of_value<T: Copying + Debug + Drop>(value: &T, told: &mut Told) {
-    if let Some(copied) = told.keep_made(value.copy()) {
-        tell_owned_value(copied, told);
-    }
 }
 
 /// A copy of these bytes.
