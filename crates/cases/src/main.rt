@@ -6,19 +6,11 @@
 //! first file that can't be read, or case with a line that is none of the notation; that is told, and nothing behind it is tried.
 #![tactic(auto)]
 
-mod cases;
-mod ended;
-mod files;
-mod forgetting;
-mod left;
-mod losses;
-mod machine;
-mod play;
-mod running;
-mod wire;
+mod gateway_program;
 
+use case_runs::tell_cases_of_text;
 use case_text::{Fault, Told, tell_value};
-use cases::tell_cases_of_text;
+use gateway_program::GatewayProgram;
 use std::process::ExitCode;
 use std::{env, fs, io};
 
@@ -49,7 +41,7 @@ fn tell_cases_of_file(rt: &HostRuntime, file: &str, told: &mut Told) {
     told.say(file);
     told.say("\n");
     match fs::read_to_string(rt, file) {
-        Ok(text) => tell_cases_of_text(rt.alloc(), text.as_str(), told),
+        Ok(text) => tell_cases_of_text(rt.alloc(), &GatewayProgram, text.as_str(), told),
         Err(_) => told.note_fault(Fault::Unread("no file that can be read")),
     }
     if let Some(fault) = told.fault() {

@@ -2,6 +2,7 @@
 //! program has no use for the latter: they end a case, and are passed over.
 use crate::ended::tell_ended_connection;
 use crate::play::{play_case, play_setup};
+use crate::program::Program;
 use case_text::{
     Given, Told, append_bytes_of_lines, cut_text, is_line_passed_over, tell_text_by_lines,
 };
@@ -10,7 +11,7 @@ use gate_base::Bytes;
 use std::alloc::Global;
 
 /// Tells what comes of each case of a text, up to the first with a fault.
-pub(crate) fn tell_cases_of_text(alloc: Global, text: &str, told: &mut Told) {
+pub fn tell_cases_of_text<P: Program>(alloc: Global, program: &P, text: &str, told: &mut Told) {
     let mut setup = "";
     let mut rest = text;
     for _ in 0..=text.len() {
@@ -20,7 +21,7 @@ pub(crate) fn tell_cases_of_text(alloc: Global, text: &str, told: &mut Told) {
             setup = below;
         }
         if !is_line_passed_over(first) {
-            tell_case(alloc, first, setup, below, told);
+            tell_case(alloc, program, first, setup, below, told);
         }
         if next.is_empty() || told.fault().is_some() {
             return;
@@ -56,32 +57,53 @@ fn size_of_case_lines(is_run: bool, text: &str) -> usize {
 }
 
 /// Tells the first line of a case, and what comes of it.
-fn tell_case(alloc: Global, first: &str, setup: &str, below: &str, told: &mut Told) {
+fn tell_case<P: Program>(
+    alloc: Global,
+    program: &P,
+    first: &str,
+    setup: &str,
+    below: &str,
+    told: &mut Told,
+) {
     told.say(first);
     told.say("\n");
     let mut came = Told::new(alloc);
-    tell_case_by_word(alloc, first, setup, below, &mut came);
+    tell_case_by_word(alloc, program, first, setup, below, &mut came);
     told.note_fault_of(&came);
     tell_text_by_lines(came.text(), told);
 }
 
-fn tell_case_by_word(alloc: Global, first: &str, setup: &str, below: &str, told: &mut Told) {
+fn tell_case_by_word<P: Program>(
+    alloc: Global,
+    program: &P,
+    first: &str,
+    setup: &str,
+    below: &str,
+    told: &mut Told,
+) {
     let setup = Given {
         lines: setup,
         word: "setup",
     };
     match cut_text(first, ' ') {
-        ("setup", _) => play_setup(alloc, setup, told),
-        ("case", _) => play_case(alloc, setup, below, told),
-        (verb, text) => tell_verb_case(alloc, verb, text, below, told),
+        ("setup", _) => play_setup(alloc, program, setup, told),
+        ("case", _) => play_case(alloc, program, setup, below, told),
+        (verb, text) => tell_verb_case(alloc, program, verb, text, below, told),
     }
 }
 
-fn tell_verb_case(alloc: Global, verb: &str, text: &str, below: &str, told: &mut Told) {
+fn tell_verb_case<P: Program>(
+    alloc: Global,
+    program: &P,
+    verb: &str,
+    text: &str,
+    below: &str,
+    told: &mut Told,
+) {
     let mut given = Bytes::new(alloc);
     append_bytes_of_lines(alloc, below, &mut given, told);
     if verb == "ended" {
-        tell_ended_connection(alloc, text, given.as_slice(), told);
+        tell_ended_connection(alloc, program, text, given.as_slice(), told);
     } else {
         tell_verb(alloc, verb, text, given.as_slice(), told);
     }

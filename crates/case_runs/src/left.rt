@@ -2,7 +2,7 @@
 use case_text::{Fault, Given, Told, copy_of_bytes, has_given_line, tell_value};
 use gate_base::{Bytes, drop};
 use std::alloc::Global;
-use swift_calls::{Swift, SwiftFault, SwiftReply, SwiftRequest, is_fit};
+use swift_calls::{Swift, SwiftFault, SwiftReply, SwiftRequest, drop_request, is_fit};
 
 /// The most names that a call lists. No case leaves more containers, or more objects in one.
 const MOST_NAMES: u32 = 1000;
@@ -166,7 +166,7 @@ pub(crate) fn ask_store<W: Swift>(
     request: SwiftRequest,
 ) -> Result<SwiftReply, SwiftFault> {
     let answer = ask_store_if_fit(store, &request);
-    drop(request);
+    drop_request(request);
     answer
 }
 

@@ -1,4 +1,6 @@
 //! The same requests through the S3 service as one machine: what it answers is what was written.
+ghost use Rattle.std.specs.Prelude.{IsTrue};
+ghost use Rattle.http_wire.specs.Print.{IsReplyStatus};
 ghost use Rattle.s3_machine.specs.Step.{IsProperOp};
 ghost use Rattle.s3_requests.specs.Proper.{IsProperMeant};
 
@@ -10,12 +12,12 @@ use case_text::{
 use case_verbs::{
     Talk, USUAL_LARGEST_BODY, USUAL_LEAST_PART, USUAL_REGION, is_shown_reply, settings_of_region,
 };
-use gate_base::{Bytes, Caller, Copying, MOMENT_LIMIT, Memory, Piece, drop};
-use gateway::{Service, print_reply};
-use http_wire::Message;
+use gate_base::{Bytes, Caller, MOMENT_LIMIT, Page, Piece, cut, drop};
+use http_wire::{Message, print_page};
 use s3_machine::{Label, Op, Reply, Settings};
 use s3_names::Target;
 use s3_native::Native;
+use s3_pages::page;
 use s3_requests::{Meant, meaning};
 use sigv4::{Keys, verify};
 use std::alloc::Global;
@@ -26,6 +28,13 @@ pub(crate) struct Machine {
     alloc: Global,
     native: Native,
     turn: u64,
+}
+
+/// By what a run understands its requests.
+#[derive(Drop)]
+pub(crate) struct Service {
+    pub(crate) settings: Settings,
+    pub(crate) keys: Keys,
 }
 
 /// By what a request is understood, its label but for its caller, and the pieces whose first begins the reply to it.
@@ -221,9 +230,12 @@ impl Machine {
         }
         let method = message.method.as_slice();
         let resource = target.raw_path.as_slice();
-        let stepped = self.native.step(op, &label);
-        compare_step_with_pieces(self.alloc, &stepped, &label, method, resource, turn, told);
-        drop(stepped);
+        match self.native.step(op, &label) {
+            Ok(reply) => compare_reply_with_pieces(
+                self.alloc, reply, &label, method, resource, turn, told,
+            ),
+            Err(_) => told.note_fault(Fault::Memory),
+        }
     }
 }
 
@@ -247,25 +259,10 @@ fn pieces_behind_first(pieces: &[Piece]) -> &[Piece] {
     }
 }
 
-fn compare_step_with_pieces(
-    alloc: Global,
-    stepped: &Result<Reply, Memory>,
-    label: &Label,
-    method: &[u8],
-    resource: &[u8],
-    turn: &Turn,
-    told: &mut Told,
-) {
-    match stepped {
-        Ok(reply) => compare_reply_with_pieces(alloc, reply, label, method, resource, turn, told),
-        Err(_) => told.note_fault(Fault::Memory),
-    }
-}
-
-/// Tells the reply as it is printed where it isn't what the pieces make, which may say besides that the connection ends.
+/// Tells the reply as it is printed where it isn't what the pieces make. Where they say that the connection ends, it says so too.
 fn compare_reply_with_pieces(
     alloc: Global,
-    reply: &Reply,
+    reply: Reply,
     label: &Label,
     method: &[u8],
     resource: &[u8],
@@ -273,14 +270,28 @@ fn compare_reply_with_pieces(
     told: &mut Told,
 ) {
     let came = reply_of_pieces(alloc, turn.pieces, told);
-    let closing = printed_machine_reply(alloc, reply, label, method, resource, true, told);
-    if closing.as_slice() != came.as_slice() {
-        let due = printed_machine_reply(alloc, reply, label, method, resource, false, told);
-        if due.as_slice() != came.as_slice() {
-            told.say("by the machine:\n");
-            tell_bytes_by_lines(alloc, due.as_slice(), told);
-        }
+    let closing = ends_connection(came.as_slice());
+    let due = printed_machine_reply(alloc, reply, label, method, resource, closing, told);
+    if due.as_slice() != came.as_slice() {
+        told.say("by the machine:\n");
+        tell_bytes_by_lines(alloc, due.as_slice(), told);
     }
+}
+
+/// Whether the head of a reply says that the connection ends.
+fn ends_connection(reply: &[u8]) -> bool {
+    let mut rest = reply;
+    for _ in 0..reply.len() {
+        let (line, behind) = cut(rest, b'\n');
+        if line == b"Connection: close\r".as_slice() {
+            return true;
+        }
+        if line == b"\r".as_slice() {
+            return false;
+        }
+        rest = behind;
+    }
+    false
 }
 
 /// The label of a request by its place in a run, from 0: two words are drawn a request, and the last moment comes again.
@@ -372,22 +383,55 @@ fn keys_of_run(alloc: Global, given: Given<'_>, told: &mut Told) -> Option<Keys>
     told.keep_made(Keys::read(alloc, text.text().as_bytes()))
 }
 
+/// The bytes of a reply of the machine to a request of that method.
 fn printed_machine_reply(
     alloc: Global,
-    reply: &Reply,
+    reply: Reply,
     label: &Label,
     method: &[u8],
     resource: &[u8],
     closing: bool,
     told: &mut Told,
 ) -> Bytes {
-    if is_shown_reply(reply) && label.moment < MOMENT_LIMIT {
-        if let Ok(copied) = reply.copy() {
-            if let Ok(page) = print_reply(alloc, copied, label, method, resource, closing) {
-                return page;
-            }
+    if is_shown_reply(&reply) && label.moment < MOMENT_LIMIT {
+        match page(alloc, reply, label, resource) {
+            Ok(page) => printed_page(alloc, &page, method, closing, told),
+            Err(_) => nothing_printed(alloc, Fault::Memory, told),
         }
+    } else {
+        drop(reply);
+        nothing_printed(alloc, Fault::Unread("a reply without a page"), told)
     }
-    told.note_fault(Fault::Unread("a reply without a page"));
+}
+
+fn printed_page(
+    alloc: Global,
+    page: &Page,
+    method: &[u8],
+    closing: bool,
+    told: &mut Told,
+) -> Bytes {
+    if !is_reply_status(page.status) {
+        return nothing_printed(alloc, Fault::Unread("no status of a reply"), told);
+    }
+    match print_page(alloc, page, method, closing) {
+        Ok(text) => text,
+        Err(_) => nothing_printed(alloc, Fault::Memory, told),
+    }
+}
+
+fn nothing_printed(alloc: Global, fault: Fault, told: &mut Told) -> Bytes {
+    told.note_fault(fault);
     Bytes::new(alloc)
+}
+
+fn is_reply_status(status: u16) -> bool
+    ensures { IsTrue result → IsReplyStatus status }
+{
+    match status {
+        200 | 204 | 206 | 304 => true,
+        400 | 403 | 404 | 405 | 409 | 411 | 412 | 416 => true,
+        500 | 501 | 503 => true,
+        _ => false,
+    }
 }

@@ -1,17 +1,18 @@
 //! How the program is run: over any store, on a line that is lent.
+use crate::program::Program;
 use case_text::{
     Fault, Given, Told, clock_of_run, given_keys, given_numbers, given_text_behind,
     tell_bytes_by_lines, words_of_text,
 };
 use gate_base::{Counted, List, ListClock, ListDraws, MemLine, MemSink};
-use gateway_cmd::run;
 use planned_swift::{Account, MemSwift};
 use std::alloc::Global;
 use swift_calls::Swift;
 
 /// Runs the program over a store, and tells its status and its report. Whether the status is 0.
-pub(crate) fn run_program_on_store<W: Swift>(
+pub(crate) fn run_program_on_store<P: Program, W: Swift>(
     alloc: Global,
+    program: &P,
     given: Given<'_>,
     store: &mut W,
     line: &mut MemLine,
@@ -20,15 +21,25 @@ pub(crate) fn run_program_on_store<W: Swift>(
     let keys = given_keys(alloc, given);
     told.note_fault_of(&keys);
     let mut report = MemSink::new(alloc, given_numbers(alloc, given, "unreported", "", told));
-    let status = run_program_with_report(alloc, given, keys.text(), store, line, &mut report, told);
+    let status = run_program_with_report(
+        alloc,
+        program,
+        given,
+        keys.text(),
+        store,
+        line,
+        &mut report,
+        told,
+    );
     told.say_number("status ", u64::from(status));
     told.say("\n");
     tell_report_of_program(alloc, report.bytes(), told);
     status == 0
 }
 
-fn run_program_with_report<W: Swift>(
+fn run_program_with_report<P: Program, W: Swift>(
     alloc: Global,
+    program: &P,
     given: Given<'_>,
     keys: &str,
     store: &mut W,
@@ -43,14 +54,15 @@ fn run_program_with_report<W: Swift>(
     let words = words_of_text(alloc, text, told);
     match clock_of_run(alloc, given, told) {
         Some(mut clock) => run_program_with_clock(
-            alloc, &words, keys, store, line, report, &mut clock,
+            alloc, program, &words, keys, store, line, report, &mut clock,
         ),
         None => 0,
     }
 }
 
-fn run_program_with_clock<W: Swift>(
+fn run_program_with_clock<P: Program, W: Swift>(
     alloc: Global,
+    program: &P,
     words: &[String],
     keys: &str,
     store: &mut W,
@@ -59,7 +71,7 @@ fn run_program_with_clock<W: Swift>(
     clock: &mut ListClock,
 ) -> u8 {
     let mut draws = ListDraws::new(List::new(alloc));
-    run(alloc, words, keys, line, report, store, clock, &mut draws)
+    program.run(alloc, words, keys, line, report, store, clock, &mut draws)
 }
 
 fn tell_report_of_program(alloc: Global, report: &[u8], told: &mut Told) {

@@ -2,6 +2,7 @@
 //! of its calls, and a new run, the probe, looks at the account after each number of calls.
 use crate::machine::machine_after_setup;
 use crate::play::First;
+use crate::program::Program;
 use crate::running::{failing_store_for_run, run_program_on_store, unfailing_store_for_run};
 use case_text::{
     Fault, Given, LARGE, Told, has_given_line, is_piece_service_unavailable, line_of_run,
@@ -43,7 +44,13 @@ struct Loss {
 }
 
 /// Tells the statuses that the probe is answered before the request and after it, and all that isn't as it is to be.
-pub(crate) fn sweep_case(alloc: Global, first: &First, given: Given<'_>, told: &mut Told) {
+pub(crate) fn sweep_case<P: Program>(
+    alloc: Global,
+    program: &P,
+    first: &First,
+    given: Given<'_>,
+    told: &mut Told,
+) {
     let setting = Setting {
         first,
         given,
@@ -58,33 +65,49 @@ pub(crate) fn sweep_case(alloc: Global, first: &First, given: Given<'_>, told: &
         first.store.calls(),
         told,
     ) {
-        sweep_over(alloc, &setting, &mut store, told);
+        sweep_over(alloc, program, &setting, &mut store, told);
     }
 }
 
-fn sweep_over(alloc: Global, setting: &Setting, store: &mut MemSwift, told: &mut Told) {
+fn sweep_over<P: Program>(
+    alloc: Global,
+    program: &P,
+    setting: &Setting,
+    store: &mut MemSwift,
+    told: &mut Told,
+) {
     if let Some(mut line) = line_of_run(alloc, setting.given, LARGE, told) {
         let mut answer = Told::new(alloc);
-        tell_answers_for_sweep(alloc, setting.given, store, &mut line, &mut answer);
+        tell_answers_for_sweep(alloc, program, setting.given, store, &mut line, &mut answer);
         told.note_fault_of(&answer);
-        sweep_with_probes(alloc, setting, store, line.pieces(), answer.text(), told);
+        sweep_with_probes(
+            alloc,
+            program,
+            setting,
+            store,
+            line.pieces(),
+            answer.text(),
+            told,
+        );
     }
 }
 
 /// Runs the program, and tells what it answers, and nothing of calls.
-fn tell_answers_for_sweep(
+fn tell_answers_for_sweep<P: Program>(
     alloc: Global,
+    program: &P,
     given: Given<'_>,
     store: &mut MemSwift,
     line: &mut MemLine,
     told: &mut Told,
 ) {
-    let _done = run_program_on_store(alloc, given, store, line, told);
+    let _done = run_program_on_store(alloc, program, given, store, line, told);
     tell_pieces_without_calls(alloc, line.pieces(), told);
 }
 
-fn sweep_with_probes(
+fn sweep_with_probes<P: Program>(
     alloc: Global,
+    program: &P,
     setting: &Setting,
     made: &MemSwift,
     pieces: &[Piece],
@@ -94,6 +117,7 @@ fn sweep_with_probes(
     let mut before = Told::new(alloc);
     probe_with_machine(
         alloc,
+        program,
         setting,
         &[],
         setting.first.store,
@@ -102,20 +126,23 @@ fn sweep_with_probes(
         told,
     );
     let mut after = Told::new(alloc);
-    probe_with_machine(alloc, setting, pieces, made, "after", &mut after, told);
+    probe_with_machine(
+        alloc, program, setting, pieces, made, "after", &mut after, told,
+    );
     let texts = Ordinary {
         answer,
         before: before.text(),
         after: after.text(),
         commit: 0,
     };
-    sweep_each_loss(alloc, setting, made, &texts, told);
+    sweep_each_loss(alloc, program, setting, made, &texts, told);
 }
 
 /// What the probe sees on the account of a store, behind a request that was answered by these pieces. It is what the machine
 /// answers, where that is asked.
-fn probe_with_machine(
+fn probe_with_machine<P: Program>(
     alloc: Global,
+    program: &P,
     setting: &Setting,
     pieces: &[Piece],
     store: &MemSwift,
@@ -124,14 +151,23 @@ fn probe_with_machine(
     told: &mut Told,
 ) {
     if let Some(mut line) = line_of_run(alloc, setting.probe, LARGE, told) {
-        probe_on_line(alloc, setting.probe, store, store.calls(), &mut line, seen);
+        probe_on_line(
+            alloc,
+            program,
+            setting.probe,
+            store,
+            store.calls(),
+            &mut line,
+            seen,
+        );
         tell_statuses_of_pieces(word, line.pieces(), told);
         compare_probe_with_machine(alloc, setting, pieces, line.pieces(), told);
     }
 }
 
-fn probe_on_line(
+fn probe_on_line<P: Program>(
     alloc: Global,
+    program: &P,
     probe: Given<'_>,
     store: &MemSwift,
     at: u64,
@@ -139,7 +175,7 @@ fn probe_on_line(
     seen: &mut Told,
 ) {
     if let Some(mut later) = unfailing_store_for_run(alloc, store, at, seen) {
-        tell_answers_for_sweep(alloc, probe, &mut later, line, seen);
+        tell_answers_for_sweep(alloc, program, probe, &mut later, line, seen);
     }
 }
 
@@ -159,14 +195,15 @@ fn compare_probe_with_machine(
     }
 }
 
-fn sweep_each_loss(
+fn sweep_each_loss<P: Program>(
     alloc: Global,
+    program: &P,
     setting: &Setting,
     made: &MemSwift,
     texts: &Ordinary,
     told: &mut Told,
 ) {
-    let commit = commit_seen_by_probe(alloc, setting.probe, made, texts, told);
+    let commit = commit_seen_by_probe(alloc, program, setting.probe, made, texts, told);
     let ordinary = Ordinary { commit, ..*texts };
     for call in 1..=made.calls() {
         for word in &LOSSES {
@@ -177,14 +214,15 @@ fn sweep_each_loss(
                 call,
                 is_done,
             };
-            sweep_one_loss(alloc, setting, &loss, &ordinary, told);
+            sweep_one_loss(alloc, program, setting, &loss, &ordinary, told);
         }
     }
 }
 
 /// The least number of calls after which the probe sees the request done, where it can see that; else 0.
-fn commit_seen_by_probe(
+fn commit_seen_by_probe<P: Program>(
     alloc: Global,
+    program: &P,
     probe: Given<'_>,
     store: &MemSwift,
     texts: &Ordinary,
@@ -194,7 +232,7 @@ fn commit_seen_by_probe(
         return 0;
     }
     for at in 0..=store.calls() {
-        if is_seen_by_probe(alloc, probe, store, at, texts.after) {
+        if is_seen_by_probe(alloc, program, probe, store, at, texts.after) {
             return at;
         }
     }
@@ -203,33 +241,42 @@ fn commit_seen_by_probe(
 }
 
 /// Whether the probe sees this on the account that a store had after so many calls.
-fn is_seen_by_probe(
+fn is_seen_by_probe<P: Program>(
     alloc: Global,
+    program: &P,
     probe: Given<'_>,
     store: &MemSwift,
     at: u64,
     text: &str,
 ) -> bool {
     let mut seen = Told::new(alloc);
-    probe_after_calls(alloc, probe, store, at, &mut seen);
+    probe_after_calls(alloc, program, probe, store, at, &mut seen);
     seen.text() == text
 }
 
-fn probe_after_calls(alloc: Global, probe: Given<'_>, store: &MemSwift, at: u64, seen: &mut Told) {
+fn probe_after_calls<P: Program>(
+    alloc: Global,
+    program: &P,
+    probe: Given<'_>,
+    store: &MemSwift,
+    at: u64,
+    seen: &mut Told,
+) {
     if let Some(mut line) = line_of_run(alloc, probe, LARGE, seen) {
-        probe_on_line(alloc, probe, store, at, &mut line, seen);
+        probe_on_line(alloc, program, probe, store, at, &mut line, seen);
     }
 }
 
-fn sweep_one_loss(
+fn sweep_one_loss<P: Program>(
     alloc: Global,
+    program: &P,
     setting: &Setting,
     loss: &Loss,
     ordinary: &Ordinary,
     told: &mut Told,
 ) {
     if let Some(mut store) = losing_store(alloc, setting.first.store, loss, told) {
-        sweep_loss_over_store(alloc, setting, loss, &mut store, ordinary, told);
+        sweep_loss_over_store(alloc, program, setting, loss, &mut store, ordinary, told);
     }
 }
 
@@ -241,8 +288,9 @@ fn losing_store(alloc: Global, first: &MemSwift, loss: &Loss, told: &mut Told) -
     failing_store_for_run(alloc, first, first.calls(), before, after, stop, told)
 }
 
-fn sweep_loss_over_store(
+fn sweep_loss_over_store<P: Program>(
     alloc: Global,
+    program: &P,
     setting: &Setting,
     loss: &Loss,
     store: &mut MemSwift,
@@ -250,8 +298,17 @@ fn sweep_loss_over_store(
     told: &mut Told,
 ) {
     if let Some(mut line) = line_of_run(alloc, setting.given, LARGE, told) {
-        compare_reply_after_loss(alloc, setting.given, loss, store, &mut line, ordinary, told);
-        compare_probes_after_loss(alloc, setting.probe, store, loss, ordinary, told);
+        compare_reply_after_loss(
+            alloc,
+            program,
+            setting.given,
+            loss,
+            store,
+            &mut line,
+            ordinary,
+            told,
+        );
+        compare_probes_after_loss(alloc, program, setting.probe, store, loss, ordinary, told);
     }
 }
 
@@ -266,8 +323,9 @@ fn numbers_of_loss(alloc: Global, loss: &Loss, word: &str, told: &mut Told) -> L
 
 /// The reply to a request one of whose calls was lost is ServiceUnavailable, where a call failed, or the ordinary one, where
 /// what it says was done. Where it tells the bytes of an object, it may be cut short behind the head or a piece.
-fn compare_reply_after_loss(
+fn compare_reply_after_loss<P: Program>(
     alloc: Global,
+    program: &P,
     given: Given<'_>,
     loss: &Loss,
     store: &mut MemSwift,
@@ -276,7 +334,7 @@ fn compare_reply_after_loss(
     told: &mut Told,
 ) {
     let mut came = Told::new(alloc);
-    tell_answers_for_sweep(alloc, given, store, line, &mut came);
+    tell_answers_for_sweep(alloc, program, given, store, line, &mut came);
     let failed = loss.call <= store.calls();
     if failed
         && came.text().starts_with("status 0\n")
@@ -299,8 +357,9 @@ fn is_cut_short(pieces: &[Piece], came: &str, answer: &str) -> bool {
 }
 
 /// The probe over the account after each number of calls sees the request as not done, or as done where that is to be.
-fn compare_probes_after_loss(
+fn compare_probes_after_loss<P: Program>(
     alloc: Global,
+    program: &P,
     probe: Given<'_>,
     store: &MemSwift,
     loss: &Loss,
@@ -313,15 +372,16 @@ fn compare_probes_after_loss(
         } else {
             ordinary.before
         };
-        if !is_seen_by_probe(alloc, probe, store, at, due) {
-            tell_loss_and_probe(alloc, probe, store, at, loss, told);
+        if !is_seen_by_probe(alloc, program, probe, store, at, due) {
+            tell_loss_and_probe(alloc, program, probe, store, at, loss, told);
         }
     }
 }
 
 /// Tells how a call was lost, and what the probe sees after so many calls.
-fn tell_loss_and_probe(
+fn tell_loss_and_probe<P: Program>(
     alloc: Global,
+    program: &P,
     probe: Given<'_>,
     store: &MemSwift,
     at: u64,
@@ -331,5 +391,5 @@ fn tell_loss_and_probe(
     told.say_number(loss.word, loss.call);
     told.say_number(", probe after calls: ", at);
     told.say("\n");
-    probe_after_calls(alloc, probe, store, at, told);
+    probe_after_calls(alloc, program, probe, store, at, told);
 }

@@ -2,6 +2,7 @@
 //! same answers the probe alike, and has forgotten as many.
 use crate::machine::machine_after_setup;
 use crate::play::First;
+use crate::program::Program;
 use crate::running::{run_program_on_store, unfailing_store_for_run};
 use case_text::{Fault, Given, LARGE, Told, line_of_run, tell_statuses_of_pieces};
 use gate_base::{Counted, Piece};
@@ -9,8 +10,9 @@ use planned_swift::MemSwift;
 use std::alloc::Global;
 
 /// Tells the statuses that the probe is answered behind the run of a case, and what the machine does otherwise.
-pub(crate) fn probe_after_forgetting(
+pub(crate) fn probe_after_forgetting<P: Program>(
     alloc: Global,
+    program: &P,
     first: &First,
     given: Given<'_>,
     told: &mut Told,
@@ -21,12 +23,13 @@ pub(crate) fn probe_after_forgetting(
         first.store.calls(),
         told,
     ) {
-        forget_and_probe(alloc, first, given, &mut store, told);
+        forget_and_probe(alloc, program, first, given, &mut store, told);
     }
 }
 
-fn forget_and_probe(
+fn forget_and_probe<P: Program>(
     alloc: Global,
+    program: &P,
     first: &First,
     given: Given<'_>,
     store: &mut MemSwift,
@@ -34,15 +37,16 @@ fn forget_and_probe(
 ) {
     if let Some(mut line) = line_of_run(alloc, given, LARGE, told) {
         let mut came = Told::new(alloc);
-        let _done = run_program_on_store(alloc, given, store, &mut line, &mut came);
+        let _done = run_program_on_store(alloc, program, given, store, &mut line, &mut came);
         told.note_fault_of(&came);
-        probe_forgotten(alloc, first, given, store, came.text(), told);
+        probe_forgotten(alloc, program, first, given, store, came.text(), told);
     }
 }
 
 /// The probe over the account that a store has, behind a run that told this.
-fn probe_forgotten(
+fn probe_forgotten<P: Program>(
     alloc: Global,
+    program: &P,
     first: &First,
     given: Given<'_>,
     store: &MemSwift,
@@ -59,7 +63,9 @@ fn probe_forgotten(
     if let Some(mut line) = line_of_run(alloc, probe, LARGE, told) {
         if let Some(mut later) = unfailing_store_for_run(alloc, store, store.calls(), told) {
             let mut seen = Told::new(alloc);
-            let _done = run_program_on_store(alloc, probe, &mut later, &mut line, &mut seen);
+            let _done = run_program_on_store(
+                alloc, program, probe, &mut later, &mut line, &mut seen,
+            );
             told.note_fault_of(&seen);
         }
         tell_statuses_of_pieces("after", line.pieces(), told);

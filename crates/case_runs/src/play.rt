@@ -5,6 +5,7 @@ use crate::forgetting::probe_after_forgetting;
 use crate::left::tell_left_after_run;
 use crate::losses::sweep_case;
 use crate::machine::compare_case_with_machine;
+use crate::program::Program;
 use crate::running::{
     empty_store_for_run, failing_store_for_run, run_program_on_store, unfailing_store_for_run,
 };
@@ -30,27 +31,34 @@ pub(crate) struct First<'a> {
 }
 
 /// Tells whether the requests of a setup are served.
-pub(crate) fn play_setup(alloc: Global, setup: Given<'_>, told: &mut Told) {
+pub(crate) fn play_setup<P: Program>(
+    alloc: Global,
+    program: &P,
+    setup: Given<'_>,
+    told: &mut Told,
+) {
     if let Some(mut store) = empty_store_for_run(alloc, told) {
-        serve_setup_on_store(alloc, setup, &mut store, "served\n", told);
+        serve_setup_on_store(alloc, program, setup, &mut store, "served\n", told);
     }
 }
 
 /// Runs the requests of a setup over a store, and puts its files. Where each is served, that is said; else what came is told.
-pub(crate) fn serve_setup_on_store<W: Swift>(
+pub(crate) fn serve_setup_on_store<P: Program, W: Swift>(
     alloc: Global,
+    program: &P,
     setup: Given<'_>,
     store: &mut W,
     served: &str,
     told: &mut Told,
 ) {
     if let Some(mut line) = line_of_run(alloc, setup, LARGE, told) {
-        serve_setup_on_line(alloc, setup, store, &mut line, served, told);
+        serve_setup_on_line(alloc, program, setup, store, &mut line, served, told);
     }
 }
 
-fn serve_setup_on_line<W: Swift>(
+fn serve_setup_on_line<P: Program, W: Swift>(
     alloc: Global,
+    program: &P,
     setup: Given<'_>,
     store: &mut W,
     line: &mut MemLine,
@@ -58,7 +66,7 @@ fn serve_setup_on_line<W: Swift>(
     told: &mut Told,
 ) {
     let mut came = Told::new(alloc);
-    let is_run = run_program_on_store(alloc, setup, store, line, &mut came);
+    let is_run = run_program_on_store(alloc, program, setup, store, line, &mut came);
     put_files_of_setup(alloc, setup, store, &mut came);
     tell_pieces(alloc, setup, line.pieces(), &mut came);
     let is_answered = line.pieces().is_empty() != setup.lines.contains('>');
@@ -71,52 +79,68 @@ fn serve_setup_on_line<W: Swift>(
 }
 
 /// Tells what comes of the runs of a case on the account that a setup leaves.
-pub(crate) fn play_case(alloc: Global, setup: Given<'_>, below: &str, told: &mut Told) {
+pub(crate) fn play_case<P: Program>(
+    alloc: Global,
+    program: &P,
+    setup: Given<'_>,
+    below: &str,
+    told: &mut Told,
+) {
     let given = Given {
         lines: below,
         word: "connection",
     };
     check_given_lines(given, told);
     if let Some(mut store) = empty_store_for_run(alloc, told) {
-        play_case_after_setup(alloc, setup, given, &mut store, told);
+        play_case_after_setup(alloc, program, setup, given, &mut store, told);
     }
 }
 
-fn play_case_after_setup(
+fn play_case_after_setup<P: Program>(
     alloc: Global,
+    program: &P,
     setup: Given<'_>,
     given: Given<'_>,
     store: &mut MemSwift,
     told: &mut Told,
 ) {
     if let Some(mut line) = line_of_run(alloc, setup, LARGE, told) {
-        serve_setup_on_line(alloc, setup, store, &mut line, "", told);
+        serve_setup_on_line(alloc, program, setup, store, &mut line, "", told);
         let first = First {
             given: setup,
             store,
             pieces: line.pieces(),
         };
-        play_case_each_way(alloc, &first, given, told);
+        play_case_each_way(alloc, program, &first, given, told);
     }
 }
 
 /// What came by the last size, and what came otherwise by each other size, over the wire, in a sweep, and behind a run that
 /// forgets.
-fn play_case_each_way(alloc: Global, first: &First, given: Given<'_>, told: &mut Told) {
+fn play_case_each_way<P: Program>(
+    alloc: Global,
+    program: &P,
+    first: &First,
+    given: Given<'_>,
+    told: &mut Told,
+) {
     let sizes = given_numbers(alloc, given, "pieces", SIZES, told);
     match sizes.as_slice().split_last() {
-        Some((last, others)) => play_case_by_sizes(alloc, first, given, *last, others, told),
+        Some((last, others)) => play_case_by_sizes(
+            alloc, program, first, given, *last, others, told,
+        ),
         None => told.note_fault(Fault::Unread("no size of pieces")),
     }
     if has_given_line(given, "sweep") {
-        sweep_case(alloc, first, given, told);
+        sweep_case(alloc, program, first, given, told);
     } else if has_given_line(given, "probe") {
-        probe_after_forgetting(alloc, first, given, told);
+        probe_after_forgetting(alloc, program, first, given, told);
     }
 }
 
-fn play_case_by_sizes(
+fn play_case_by_sizes<P: Program>(
     alloc: Global,
+    program: &P,
     first: &First,
     given: Given<'_>,
     last: u64,
@@ -124,26 +148,34 @@ fn play_case_by_sizes(
     told: &mut Told,
 ) {
     let mut usual = Told::new(alloc);
-    play_case_by_size(alloc, first, given, last, &mut usual);
+    play_case_by_size(alloc, program, first, given, last, &mut usual);
     told.note_fault_of(&usual);
     told.say(usual.text());
     for size in others {
         let mut other = Told::new(alloc);
-        play_case_by_size(alloc, first, given, *size, &mut other);
+        play_case_by_size(alloc, program, first, given, *size, &mut other);
         told.say_if_other("by ", *size, &other, usual.text());
     }
-    play_wire(alloc, first.given, given, last, usual.text(), told);
+    play_wire(alloc, program, first.given, given, last, usual.text(), told);
 }
 
 /// Tells what comes by a size, and what the machine answers where that is otherwise.
-fn play_case_by_size(alloc: Global, first: &First, given: Given<'_>, size: u64, told: &mut Told) {
+fn play_case_by_size<P: Program>(
+    alloc: Global,
+    program: &P,
+    first: &First,
+    given: Given<'_>,
+    size: u64,
+    told: &mut Told,
+) {
     if let Some(mut store) = store_after_setup(alloc, given, first.store, told) {
-        play_case_on_store(alloc, first, given, size, &mut store, told);
+        play_case_on_store(alloc, program, first, given, size, &mut store, told);
     }
 }
 
-fn play_case_on_store(
+fn play_case_on_store<P: Program>(
     alloc: Global,
+    program: &P,
     first: &First,
     given: Given<'_>,
     size: u64,
@@ -151,7 +183,7 @@ fn play_case_on_store(
     told: &mut Told,
 ) {
     if let Some(mut line) = line_of_run(alloc, given, size, told) {
-        tell_run_of_case(alloc, given, store, &mut line, told);
+        tell_run_of_case(alloc, program, given, store, &mut line, told);
         tell_left_after_case(alloc, given, store, told);
         compare_case_with_machine(alloc, first, given, line.pieces(), told);
     }
@@ -174,14 +206,15 @@ fn store_after_setup(
 }
 
 /// Runs the program, and tells all of it but what is left.
-pub(crate) fn tell_run_of_case<W: Swift>(
+pub(crate) fn tell_run_of_case<P: Program, W: Swift>(
     alloc: Global,
+    program: &P,
     given: Given<'_>,
     store: &mut W,
     line: &mut MemLine,
     told: &mut Told,
 ) {
-    let _done = run_program_on_store(alloc, given, store, line, told);
+    let _done = run_program_on_store(alloc, program, given, store, line, told);
     if has_given_line(given, "tell calls") {
         told.say_number("calls ", store.calls());
         told.say("\n");
