@@ -1,21 +1,21 @@
 #!/usr/bin/env python3
-"""The words of the contracts, made from the comments in specs/: writes docs/DEFINITIONS.md.
+"""The words of the contracts: each definition in crates/*/specs, with the comment above it and the functions whose clauses name it.
 
-  bench/definitions.py            writes the page
-  bench/definitions.py --check    says whether the page is what it would write, and which of its words has no comment
+  bench/definitions.py WORD..    prints the definitions of these names: where each stands, its sentence, its text, and the public
+                                 functions, traits and impls whose clauses name it
+  bench/definitions.py           prints a list of all that such a clause names, by crate and file, without their texts
 
-A word is on the page where a clause of a public function, of a trait or of an impl names it. What the page says of it is the
-comment above its definition; one comment may stand above several definitions that follow one another.
+The sentence of a definition is the comment above it; one comment may stand above several definitions that follow one another. A
+case of a `data` is found by its own name too, with the definition that it belongs to.
 """
 import os
 import re
 import sys
 
 ROOT = os.path.join(os.path.dirname(os.path.abspath(__file__)), "..")
-PAGE = "docs/DEFINITIONS.md"
 HEAD = """# Definitions
 
-The words of the contracts: each definition in `specs/` that a clause of a public function, of a trait or of an impl names, by crate and file, with what the comment above it says and the functions whose clauses name it. The first line of each file says where its definitions come from: RFC 9112 and RFC 9110 (HTTP), the Amazon S3 API Reference, Object Storage API v1 (Swift), or this profile. `bench/definitions.py` writes this page from the comments; change those.
+The words of the contracts: each definition in `specs/` that a clause of a public function, of a trait or of an impl names, by crate and file, with what the comment above it says and the functions whose clauses name it. The first line of each file says where its definitions come from: RFC 9112 and RFC 9110 (HTTP), the Amazon S3 API Reference, Object Storage API v1 (Swift), or this profile.
 """
 DEFINES = re.compile(r"(?:(?:abbrev|unfoldable) )?pub (?:record |data )?([^\s:({]+)")
 
@@ -28,24 +28,45 @@ def crates():
                 yield name
 
 
+def modules(crate):
+    """The files of a crate's definitions, by the name of their module, but for the one that names the others."""
+    folder = f"crates/{crate}/specs"
+    for name in sorted(os.listdir(folder) if os.path.isdir(folder) else []):
+        if name.endswith(".antt") and name != "Lib.antt":
+            yield name.removesuffix(".antt"), f"{folder}/{name}"
+
+
+def is_definition(line):
+    return DEFINES.match(line) and not line.startswith(("pub mod", "pub use"))
+
+
+def text_from(lines, at):
+    """The definition that begins there: up to an empty line or the next definition, without the comments at its end."""
+    end = at + 1
+    while end < len(lines) and lines[end].strip() and not is_definition(lines[end]):
+        end += 1
+    while lines[end - 1].startswith("--"):
+        end -= 1
+    return lines[at:end]
+
+
 def definitions(path):
-    """The first comment of a file, and its definitions in order, each with the comment above it."""
+    """The first comment of a file, and its definitions in order: of each the word, the comment above it, its line and its text."""
     with open(path, encoding="utf-8") as file:
         lines = file.read().split("\n")
     first, found, comment, fresh, at = [], [], "", False, 0
     while at < len(lines) and lines[at].startswith("--"):
         first.append(lines[at][2:].strip())
         at += 1
-    for line in lines[at:]:
+    for number, line in enumerate(lines[at:], at):
         if line.startswith("-- ----"):
             comment, fresh = "", True
         elif line.startswith("--"):
             text = line[2:].strip()
             comment, fresh = (text if fresh else f"{comment} {text}".strip()), False
         else:
-            named = DEFINES.match(line)
-            if named and not line.startswith("pub mod") and not line.startswith("pub use"):
-                found.append((named[1], comment))
+            if is_definition(line):
+                found.append((DEFINES.match(line)[1], comment, number + 1, text_from(lines, number)))
             fresh = True
     return " ".join(it for it in first if it), found
 
@@ -81,36 +102,41 @@ def clauses(path):
     return kept, brought
 
 
-def page():
-    carried, missing, text = {}, [], [HEAD]
+def citations():
+    """Of each word, by its crate and module, the functions whose clauses name it, in order, each with its crate."""
+    cited = {}
     for crate in crates():
-        folder = f"crates/{crate}/src"
-        for top, _, names in os.walk(folder):
+        for top, _, names in os.walk(f"crates/{crate}/src"):
             for name in sorted(names):
                 if name.endswith(".rt"):
                     kept, brought = clauses(os.path.join(top, name))
                     for function, body in kept:
                         for word in re.findall(r"[A-Za-z_][\w']*", body):
                             if word in brought:
-                                places = carried.setdefault(brought[word], [])
+                                places = cited.setdefault(brought[word], [])
                                 if (crate, function) not in places:
                                     places.append((crate, function))
+    return cited
+
+
+def shown(places, crate):
+    return ", ".join(f"`{function}`" if of == crate else f"`{of}`: `{function}`" for of, function in places)
+
+
+def page(cited):
+    missing, text = [], [HEAD]
     for crate in crates():
-        folder, parts = f"crates/{crate}/specs", []
-        for name in sorted(os.listdir(folder) if os.path.isdir(folder) else []):
-            module = name.removesuffix(".antt")
-            if module == "Lib" or module == name:
-                continue
-            first, found = definitions(os.path.join(folder, name))
+        parts = []
+        for module, path in modules(crate):
+            first, found = definitions(path)
             rows = []
-            for word, comment in found:
-                places = carried.get((crate, module, word), [])
+            for word, comment, number, _ in found:
+                places = cited.get((crate, module, word), [])
                 if places:
                     if not comment:
-                        missing.append(f"{folder}/{name}: {word}")
-                    shown = ", ".join(f"`{function}`" if of == crate else f"`{of}`: `{function}`" for of, function in places[:6])
+                        missing.append(f"{path}:{number}: {word}")
                     more = f" and {len(places) - 6} more" if len(places) > 6 else ""
-                    rows.append(f"- `{word}`: {comment or 'no comment'}. *{shown}{more}*")
+                    rows.append(f"- `{word}`: {comment or 'no comment'}. *{shown(places[:6], crate)}{more}*")
             if rows:
                 parts.append(f"\n### {module}\n\n{first}\n\n" + "\n".join(rows) + "\n")
         if parts:
@@ -118,24 +144,46 @@ def page():
     return "".join(text), missing
 
 
-def finish(path, text, complaints):
-    """Writes a page, or with `--check` looks whether it is what would be written; and prints what there is to complain of."""
-    if sys.argv[1:] == ["--check"]:
-        with open(path, encoding="utf-8") as file:
-            if file.read() != text:
-                complaints = complaints + [f"{path} is not what bench/{os.path.basename(sys.argv[0])} writes"]
-    else:
-        with open(path, "w", encoding="utf-8") as file:
-            file.write(text)
+def cases(text):
+    """The names of the cases of a `data`."""
+    begun = text[0].startswith("pub data ")
+    return [line.split(" : ")[0].strip() for line in text[1:] if " : " in line] if begun else []
+
+
+def told(word, cited):
+    """What is printed of a name: each definition of it, or with a case of it."""
+    parts = []
+    for crate in crates():
+        for module, path in modules(crate):
+            for name, comment, number, text in definitions(path)[1]:
+                if word == name or word in cases(text):
+                    places = cited.get((crate, module, word), [])
+                    by = f"In clauses of {shown(places, crate)}." if places else "In no clause of a public function, trait or impl."
+                    parts.append("\n".join([f"{path}:{number}", "", f"{comment or 'no comment'}.", "", *text, "", by, ""]))
+    return parts
+
+
+def finish(complaints):
+    """Prints what there is to complain of, and ends the program."""
     for complaint in complaints:
-        print(complaint)
+        print(complaint, file=sys.stderr)
     sys.exit(1 if complaints else 0)
 
 
 def main():
     os.chdir(ROOT)
-    text, missing = page()
-    finish(PAGE, text, [f"a word of a contract has no comment: {place}" for place in missing])
+    cited, complaints = citations(), []
+    if sys.argv[1:]:
+        for word in sys.argv[1:]:
+            parts = told(word, cited)
+            print("\n".join(parts), end="\n" if parts and word != sys.argv[-1] else "")
+            if not parts:
+                complaints.append(f"no definition in crates/*/specs has the name {word}; `rt lemma {word}` looks among the toolchain's")
+    else:
+        text, missing = page(cited)
+        print(text, end="")
+        complaints = [f"a word of a contract has no comment: {place}" for place in missing]
+    finish(complaints)
 
 
 if __name__ == "__main__":

@@ -1,11 +1,13 @@
 #!/usr/bin/env python3
-"""What each file is about, made from the comments in src/ and specs/: writes docs/FILES.md.
+"""What each file is about, made from the comments in src/ and specs/.
 
-  bench/files.py            writes the page
-  bench/files.py --check    says whether the page is what it would write, and which file doesn't say what it is about
+  bench/files.py CRATE..    prints it of these crates
+  bench/files.py            prints it of all, in the order of crates.txt
 
-A file of src/ says it by the first sentence of its `//!` comment, or else of the doc comment of its main item: the one of the file's
-name, or else the first, a public one before others and a constant last. One of specs/ says it by that of its first `--` comment.
+Of a crate first what it is by its `lib.rt` or `main.rt`, then each file of its `src/`, with the file of `specs/` that has the same
+name behind it, and then the other files of `specs/`, but for `Lib.antt`, which names them. A file of src/ says it by the first
+sentence of its `//!` comment, or else of the doc comment of its main item: the one of the file's name, or else the first, a public
+one before others and a constant last. One of specs/ says it by that of its first `--` comment.
 """
 import os
 import re
@@ -14,11 +16,6 @@ import sys
 sys.dont_write_bytecode = True
 from definitions import ROOT, finish
 
-PAGE = "docs/FILES.md"
-HEAD = """# Files
-
-To find the place of a thing from its name, and what a file is about: the crates in the order of `crates.txt`, of each what it is by its `lib.rt` or `main.rt`, then each file of its `src/`, with the file of `specs/` that has the same name behind it, and then the other files of `specs/`, but for `Lib.antt`, which names them. `bench/files.py` writes this page from the first sentence of each file's comment; change those.
-"""
 ITEM = re.compile(r"(pub(?:\([a-z]+\))? )?(const (?!fn)|(?:const )?fn |struct |enum |trait |type )(\w+)")
 
 
@@ -82,7 +79,7 @@ def crate_part(crate, silent):
     sources = files(f"crates/{crate}/src", ".rt", about_source, silent)
     specs = files(f"crates/{crate}/specs", ".antt", about_definitions, silent)
     own = sources.pop("lib.rt", "") or sources.pop("main.rt", "")
-    rows = [f"- **[{crate}](../crates/{crate}/README.md)**: {own}"]
+    rows = [f"- **{crate}**: {own}"]
     alike = {name.removesuffix(".antt").lower() + ".rt": name for name in specs}
     for name in sorted(sources):
         row = f"  - `{name}`: {sources[name]}"
@@ -95,18 +92,21 @@ def crate_part(crate, silent):
 
 def main():
     os.chdir(ROOT)
-    text, silent, heading = [HEAD], [], ""
+    asked, known, complaints, heading = sys.argv[1:], [], [], ""
     with open("crates.txt", encoding="utf-8") as file:
         for line in file:
             crate = line.split("#")[0].split(":")[0].strip()
             if line.startswith("#"):
                 heading = line.strip("#. \n")
             elif crate:
-                if heading:
-                    text.append(f"\n## {heading}\n\n")
-                heading = ""
-                text += [f"{row}\n" for row in crate_part(crate, silent)]
-    finish(PAGE, "".join(text), [f"a file that doesn't say what it is about: {path}" for path in silent])
+                known.append(crate)
+                if not asked and heading:
+                    print(f"\n## {heading}\n" if len(known) > 1 else f"## {heading}\n")
+                    heading = ""
+                if not asked or crate in asked:
+                    print("\n".join(crate_part(crate, complaints)))
+    silent = [f"a file that doesn't say what it is about: {path}" for path in complaints]
+    finish(silent + [f"no crate of crates.txt has the name {name}" for name in asked if name not in known])
 
 
 main()
