@@ -36,9 +36,12 @@ pub enum Why {
     Folder,
     FileDenied,
     Unreadable,
-    /// The file that it names: another process has it, it is none of SQLite's or is damaged, its disk is full.
+    /// The file that it names: another process has it, it is none of SQLite's or is damaged, its log is damaged, it hasn't all that
+    /// was answered, its disk is full.
     FileInUse,
     NoDatabase,
+    DamagedLog,
+    Behind,
     DiskFull,
     /// It has more bytes than half of the machine's memory has.
     TooLarge,
@@ -123,6 +126,8 @@ impl Why {
             Why::Unreadable => b"cannot be read",
             Why::FileInUse => b"in use by another process",
             Why::NoDatabase => b"no database, or a damaged one",
+            Why::DamagedLog => b"a damaged log",
+            Why::Behind => b"changes that were answered are missing",
             Why::DiskFull => b"no room on the disk",
             Why::TooLarge => b"larger than half of the machine's memory",
             Why::CannotOpen => b"cannot be opened and written",

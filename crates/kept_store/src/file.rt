@@ -1,8 +1,8 @@
 //! The file that keeps an account.
 
+use body_files::{Beside, BodyFault, test_log_beside};
 use sqlite::{Connection, Error, ErrorCode, File, FileStore};
-use std::{fs, str};
-use swift_store::StoreFault;
+use std::fs;
 
 /// A connection to a file. That it is one of SQLite's stores is proved anew in each function that calls a generic one for it,
 /// which is dear: so there is to be one such call, of a function that is generic over the connection and does all.
@@ -12,27 +12,29 @@ pub type FileConnection = Connection<FileStore<File>>;
 #[derive(Clone, Copy, Debug, PartialEq, Eq)]
 pub enum FileFault {
     Memory,
-    /// The path isn't UTF-8.
-    NotText,
     /// The file has more bytes than it may have.
     TooLarge,
     /// Another process has it.
     InUse,
     /// It is no database, or a damaged one, or has tables of these names with other columns.
     NoDatabase,
+    /// Its log has commits behind a frame that isn't what was written.
+    DamagedLog,
+    /// Commits that were answered aren't in it.
+    Behind,
     DiskFull,
     /// The system doesn't open it, or it can't be written.
     CannotOpen,
 }
 
 /// A connection to the file of this path, which is made where there is none. It is refused where it has more bytes than `most`:
-/// an open takes the bodies of all objects into memory together.
-pub fn open_file(rt: &HostRuntime, path: &[u8], most: u64) -> Result<FileConnection, FileFault> {
-    let Ok(path) = str::from_utf8(path) else {
-        return Err(FileFault::NotText);
-    };
+/// an open takes all rows into memory together, the bodies that stand in them too.
+pub fn open_file(rt: &HostRuntime, path: &str, most: u64) -> Result<FileConnection, FileFault> {
     if is_larger(rt, path, most) {
         return Err(FileFault::TooLarge);
+    }
+    if let Err(fault) = test_log_beside(rt, path) {
+        return Err(fault_of_log(fault));
     }
     match Connection::open_with_sums(rt, path) {
         Ok(connection) => Ok(connection),
@@ -40,17 +42,17 @@ pub fn open_file(rt: &HostRuntime, path: &[u8], most: u64) -> Result<FileConnect
     }
 }
 
+/// What stands beside the file of this path: it is made where it isn't there, so the file is to be open.
+pub fn open_beside(rt: &HostRuntime, path: &str) -> Result<Beside, FileFault> {
+    match Beside::open(rt, path) {
+        Ok(beside) => Ok(beside),
+        Err(fault) => Err(fault_of_beside(fault)),
+    }
+}
+
 /// Ends what stands over a file: the log beside it is written into it.
 pub fn close_file(connection: FileConnection) {
     let _ = connection.close();
-}
-
-/// Why a file that is open keeps no account, by the fault of `KeptShelf::adopt`.
-pub fn fault_of_adopted_file(fault: StoreFault) -> FileFault {
-    match fault {
-        StoreFault::Memory => FileFault::Memory,
-        StoreFault::Failed => FileFault::NoDatabase,
-    }
 }
 
 /// Whether there is a file of more bytes than that.
@@ -61,7 +63,22 @@ fn is_larger(rt: &HostRuntime, path: &str, most: u64) -> bool {
     }
 }
 
-fn fault_of_open(error: Error) -> FileFault {
+fn fault_of_log(fault: BodyFault) -> FileFault {
+    match fault {
+        BodyFault::Memory => FileFault::Memory,
+        BodyFault::Refused => FileFault::CannotOpen,
+        BodyFault::Damaged => FileFault::DamagedLog,
+    }
+}
+
+pub(crate) fn fault_of_beside(fault: BodyFault) -> FileFault {
+    match fault {
+        BodyFault::Memory => FileFault::Memory,
+        BodyFault::Refused | BodyFault::Damaged => FileFault::CannotOpen,
+    }
+}
+
+pub(crate) fn fault_of_open(error: Error) -> FileFault {
     match error {
         Error::SqliteFailure(ErrorCode::OutOfMemory) => FileFault::Memory,
         Error::SqliteFailure(ErrorCode::DatabaseBusy) => FileFault::InUse,

@@ -1,109 +1,85 @@
 //! A shelf over a connection.
-ghost use Rattle.std.specs.Prelude.{◌≡◌, pos, true, false, [], ◌∷◌, ◌++◌, None, Ok, IfOk, IfSome, OnErr, OnOk};
+ghost use Rattle.std.specs.Prelude.{◌≡◌, pos, true, false, None, IfOk, IfSome, OnErr, OnOk};
 ghost use Rattle.std.specs.List.{All};
 ghost use Rattle.std.proofs.Common.{sym, true≢false};
 ghost use Rattle.gate_base.specs.Causes.{Rose};
 ghost use Rattle.swift_calls.specs.Bodies.{etag_of};
-ghost use Rattle.swift_calls.specs.Step.{IsMoment};
 ghost use Rattle.swift_calls.specs.Account.{files, put_file};
 ghost use Rattle.swift_store.specs.Made.{IsMadeObject};
 ghost use Rattle.swift_store.specs.Shelf.{CountsStoreFaults, ShelfReads, ShelfWrites, object_of, object_page};
 ghost use Rattle.swift_store.specs.declared.faults.StoreFault.TheVariants as fault;
-ghost use Rattle.object_rows.specs.Rows.{HasRow, ReadsColumns, row_of};
+ghost use Rattle.object_rows.specs.Rows.{HasRow};
 ghost use Rattle.sqlite.specs.Held.{state};
-ghost use Rattle.sqlite.specs.State.{HasCleanDisk, Executes};
+ghost use Rattle.sqlite.specs.State.{HasCleanDisk, QueriesRow};
 ghost use Rattle.sqlite.specs.Values.{bound};
-ghost use Rattle.kept_store.specs.Kept.{CountsFault, Executed, HasPrefix, kept_model, put_values};
-ghost use Rattle.kept_store.specs.declared.statements.TheConstants.{PUT};
+ghost use Rattle.kept_store.specs.Kept.{Commits, CountsFault, HasPrefix, IsRowOf, Looks, Puts, kept_model, place_values, put_values};
+ghost use Rattle.kept_store.specs.declared.statements.TheConstants.{PLACE, PUT};
 
+use crate::file::{FileFault, fault_of_beside};
+use crate::latest::{Latest, append_latest, append_part, found_in, is_latest, place_of_latest};
+use crate::rows::{container_in, head_in, is_out_of_memory, items_in, names_in, number_in, row_in};
 use crate::statements;
+use crate::tables::{commit, is_behind, last_commit, make_tables, placed_numbers};
+use body_files::{Beside, BodyFault, BodyFolder, Place, Settled, settle};
 use gate_base::{Bytes, List, Memory};
-use object_rows::{Row, RowFault, from_row, object_of_columns, pieces_of, row_with_etag};
+use object_rows::{Row, RowFault, from_row, row_with_etag, row_with_place};
 use slo_manifest::Segment;
 use sqlite::types::ValueRef;
-use sqlite::{Alter, Connection, Error, ErrorCode, params};
+use sqlite::{Alter, Connection, Error, params};
 use std::alloc::Global;
 use swift_calls::{Content, NameItem, ReadList, Stored, StoredHead};
 use swift_store::{Shelf, StoreFault};
 
-/// The end of the moments of containers, in seconds since 1970.
-const MOMENT_LIMIT: u64 = 253_402_300_800;
+/// The most bytes of a body that stands in its row. Each start has these in memory together.
+const MOST_IN_ROW: usize = 256;
 
-const LIST: u64 = 1;
-
-/// An account in the two tables of a database. Each call is at most one statement, so one that is refused changes nothing. It
-/// tells nothing of the tables.
+/// An account in the tables of a database, and the larger bodies in the files of a folder beside it. Each call writes by at most one
+/// transaction, of a statement and its number, so one that is refused changes nothing. A file is written before the row that tells of
+/// it, and removed after the row that told of it. It tells nothing of the tables.
 ///
-/// `read` keeps the object that it read until a statement writes: a row is read as a whole, and bodies are asked for in ranges.
+/// `read` keeps what it found until a statement writes, since bodies are asked for in ranges: the place of a body, or a row.
 #[derive(Drop)]
 pub struct KeptShelf<S: Alter> {
     alloc: Global,
     connection: Connection<S>,
     faults: u64,
     latest: Option<Latest>,
-}
-
-/// An object of a container.
-#[derive(Drop)]
-struct Latest {
-    container: Bytes,
-    object: Stored,
-}
-
-fn is_out_of_memory(error: Error) -> bool {
-    match error {
-        Error::SqliteFailure(ErrorCode::OutOfMemory) => true,
-        _ => false,
-    }
-}
-
-/// The fault of a statement before there is a shelf.
-fn fault_of_statement(error: Error) -> StoreFault {
-    if is_out_of_memory(error) {
-        StoreFault::Memory
-    } else {
-        StoreFault::Failed
-    }
-}
-
-fn make<S: Alter + Drop>(connection: &mut Connection<S>, text: &str) -> Result<(), StoreFault> {
-    match connection.execute(text, &[]) {
-        Ok(_) => Ok(()),
-        Err(error) => Err(fault_of_statement(error)),
-    }
-}
-
-fn make_tables<S: Alter + Drop>(connection: &mut Connection<S>) -> Result<(), StoreFault> {
-    make(connection, statements::MAKE_CONTAINERS)?;
-    make(connection, statements::MAKE_OBJECTS)?;
-    test_columns(connection, statements::TRY_CONTAINERS)?;
-    test_columns(connection, statements::TRY_OBJECTS)?;
-    make(connection, statements::MAKE_HEADS)
-}
-
-fn test_columns<S: Alter + Drop>(
-    connection: &mut Connection<S>,
-    text: &str,
-) -> Result<(), StoreFault> {
-    match connection.query_all(text, &[]) {
-        Ok(_) => Ok(()),
-        Err(error) => Err(fault_of_statement(error)),
-    }
+    beside: Beside,
+    next: u64,
+    settled: Settled,
 }
 
 impl<S: Alter + Drop> KeptShelf<S> {
-    /// A shelf over a connection. It makes the tables where they aren't there. Failed: a statement was refused for another
-    /// cause than memory, as where tables of these names have other columns; the database is then as it was.
-    pub fn adopt(alloc: Global, mut connection: Connection<S>) -> Result<KeptShelf<S>, StoreFault> {
-        make(&mut connection, statements::BEGIN)?;
+    /// A shelf over a connection, and what stands beside it. It makes the tables where they aren't there, and settles what a stop
+    /// left of the files. NoDatabase: a statement was refused for another cause than memory, as where tables of these names have
+    /// other columns. Behind: the file beside has a higher number than the last commit of the tables. After either all is as it was.
+    pub fn adopt(
+        alloc: Global,
+        mut connection: Connection<S>,
+        beside: Beside,
+    ) -> Result<KeptShelf<S>, FileFault> {
         make_tables(&mut connection)?;
-        make(&mut connection, statements::COMMIT)?;
+        let last = last_commit(&mut connection)?;
+        if is_behind(&beside, last)? {
+            return Err(FileFault::Behind);
+        }
+        let numbers = placed_numbers(alloc, &mut connection)?;
+        let settled = settle_beside(&beside, &numbers)?;
+        let next = settled.next.max(last.saturating_add(1));
         Ok(KeptShelf {
             alloc,
             connection,
             faults: 0,
             latest: None,
+            beside,
+            next,
+            settled,
         })
+    }
+
+    /// What the start found among the files.
+    pub fn settled(&self) -> Settled {
+        self.settled
     }
 
     /// The connection back. It takes no memory.
@@ -113,6 +89,9 @@ impl<S: Alter + Drop> KeptShelf<S> {
             connection,
             faults: _,
             latest: _,
+            beside: _,
+            next: _,
+            settled: _,
         } = self;
         connection
     }
@@ -146,17 +125,46 @@ impl<S: Alter + Drop> KeptShelf<S> {
         }
     }
 
-    /// How many rows a statement wrote. Each statement that writes is run here, and what was read before it is forgotten.
+    /// The fault of a body that is not read or written.
+    fn unread_body(&mut self, fault: BodyFault) -> StoreFault
+        ensures { CountsFault self.old.faults self.new.faults result }
+    {
+        match fault {
+            BodyFault::Memory => StoreFault::Memory,
+            BodyFault::Refused => self.fail(),
+            BodyFault::Damaged => self.fail(),
+        }
+    }
+
+    /// A number that no commit and no body has: they have one count, so that a number above the last commit's is above all.
+    fn take_number(&mut self) -> u64
+        ensures faults { self.new.faults ≡ self.old.faults }
+        ensures latest { self.new.latest ≡ self.old.latest }
+        ensures connection { self.new.connection ≡ self.old.connection }
+    {
+        let number = self.next;
+        self.next = number.saturating_add(1);
+        number
+    }
+
+    /// How many rows a statement wrote, which is committed with its number. Each statement that writes is run here, and what was
+    /// read before it is forgotten. The number is written beside once it is committed, so that a start finds out whether it still is.
     fn written(&mut self, text: &str, values: &[ValueRef<'_>]) -> Result<usize, StoreFault>
         ensures faults { CountsStoreFaults self.old.faults self.new.faults result }
         ensures forgets { OnOk result (self.new.latest ≡ None) }
-        ensures runs { IfOk result (λ count. HasCleanDisk (state S.Store self.new.connection)
-            → Executes text.now (bound values.now) (state S.Store self.old.connection)
-            (state S.Store self.new.connection) (Ok count)) }
+        ensures runs { OnOk result (Commits (state S.Store) text.now (bound values.now)
+            self.old.connection self.new.connection) }
     {
         self.keep(None);
-        match self.connection.execute(text, values) {
-            Ok(count) => Ok(count),
+        let number = self.take_number();
+        let Some(signed) = signed(number) else {
+            return Err(self.fail());
+        };
+        match commit(&mut self.connection, text, values, signed) {
+            Ok(count) => {
+                let _ = self.beside.commits.set(number);
+                Ok(count)
+            }
             Err(error) => Err(self.refused(error)),
         }
     }
@@ -223,8 +231,8 @@ impl<S: Alter + Drop> KeptShelf<S> {
         requires size { size ≡ pos row.now.size }
         ensures faults { CountsStoreFaults self.old.faults self.new.faults result }
         ensures forgets { OnOk result (self.new.latest ≡ None) }
-        ensures runs { OnOk result (Executed PUT.now (put_values container.now name.now row.now)
-            (state S.Store self.old.connection) (state S.Store self.new.connection)) }
+        ensures runs { OnOk result (Commits (state S.Store) PUT.now
+            (put_values container.now name.now row.now) self.old.connection self.new.connection) }
     {
         self.written(
             statements::PUT,
@@ -241,6 +249,8 @@ impl<S: Alter + Drop> KeptShelf<S> {
         )
     }
 
+    /// Puts an object, and removes the file of the one that stood there. A larger body is written and synced before its row is. Where
+    /// the statement fails, whether the row is there isn't known until the next start: the files stay, and that one settles them.
     fn put_object(
         &mut self,
         container: &[u8],
@@ -250,20 +260,87 @@ impl<S: Alter + Drop> KeptShelf<S> {
         requires row { HasRow object.now }
         requires etag { etag ≡ etag_of object.now.content }
         ensures faults { CountsStoreFaults self.old.faults self.new.faults result }
-        ensures forgets { OnOk result (self.new.latest ≡ None) }
-        ensures runs { OnOk result (Executed PUT.now (put_values container.now object.now.name (row_of object.now))
+        ensures runs { OnOk result (Puts (state S.Store) container.now object.now
+            self.old.connection self.new.connection) }
+    {
+        let before = self.look_for_place(container, object.name.as_slice())?;
+        let number = self.write_body(&object.content)?;
+        let row = row_to_put(self.alloc, object, etag, number)?;
+        retire_body(&self.beside.bodies, before);
+        self.put_row(container, object.name.as_slice(), &row)?;
+        keep_body(&self.beside.bodies, number);
+        drop_body(&self.beside.bodies, before);
+        Ok(())
+    }
+
+    /// Writes a body that is too large for its row into a new file, and gives its number. A file that isn't written to its end is
+    /// removed.
+    fn write_body(&mut self, content: &Content) -> Result<Option<u64>, StoreFault>
+        ensures faults { CountsStoreFaults self.old.faults self.new.faults result }
+        ensures same { OnOk result (self.new.connection ≡ self.old.connection) }
+    {
+        match content {
+            Content::Plain(body) => {
+                if body.len() > MOST_IN_ROW {
+                    self.write_large_body(body.as_slice())
+                } else {
+                    Ok(None)
+                }
+            }
+            Content::Segments(_) => Ok(None),
+        }
+    }
+
+    fn write_large_body(&mut self, body: &[u8]) -> Result<Option<u64>, StoreFault>
+        ensures faults { CountsStoreFaults self.old.faults self.new.faults result }
+        ensures same { OnOk result (self.new.connection ≡ self.old.connection) }
+    {
+        let number = self.take_number();
+        match self.beside.bodies.write(number, body) {
+            Ok(()) => Ok(Some(number)),
+            Err(fault) => {
+                let _ = self.beside.bodies.remove(number);
+                Err(self.unread_body(fault))
+            }
+        }
+    }
+
+    /// The number of the file in which the body of an object stands, if it stands in one.
+    fn look_for_place(&mut self, container: &[u8], name: &[u8]) -> Result<Option<u64>, StoreFault>
+        ensures faults { CountsStoreFaults self.old.faults self.new.faults result }
+        ensures looks { OnOk result (Looks container.now name.now
             (state S.Store self.old.connection) (state S.Store self.new.connection)) }
     {
-        let row = row_with_etag(self.alloc, object, etag)?;
-        self.put_row(container, object.name.as_slice(), &row)
+        match self.row_of_place(container, name) {
+            Ok(row) => match number_in(&row) {
+                Ok(number) => Ok(number),
+                Err(error) => Err(self.refused(error)),
+            },
+            Err(Error::QueryReturnedNoRows) => Ok(None),
+            Err(error) => Err(self.refused(error)),
+        }
+    }
+
+    fn row_of_place<'x>(
+        &mut self,
+        container: &'x [u8],
+        name: &'x [u8],
+    ) -> Result<sqlite::Row, Error>
+        ensures faults { self.new.faults ≡ self.old.faults }
+        ensures looks { HasCleanDisk (state S.Store self.new.connection)
+            → QueriesRow PLACE.now (place_values container.now name.now)
+            (state S.Store self.old.connection) (state S.Store self.new.connection) result }
+    {
+        self.connection
+            .query_row(statements::PLACE, params![container, name])
     }
 
     /// A row whose kind or size no column takes is Failed.
     fn put_row(&mut self, container: &[u8], name: &[u8], row: &Row) -> Result<(), StoreFault>
         ensures faults { CountsStoreFaults self.old.faults self.new.faults result }
         ensures forgets { OnOk result (self.new.latest ≡ None) }
-        ensures runs { OnOk result (Executed PUT.now (put_values container.now name.now row.now)
-            (state S.Store self.old.connection) (state S.Store self.new.connection)) }
+        ensures runs { OnOk result (Commits (state S.Store) PUT.now
+            (put_values container.now name.now row.now) self.old.connection self.new.connection) }
     {
         let Some(kind) = signed(row.kind) else {
             return Err(self.fail());
@@ -288,15 +365,6 @@ impl<S: Alter + Drop> KeptShelf<S> {
         }
     }
 
-    fn is_latest(&self, container: &[u8], name: &[u8]) -> bool {
-        match &self.latest {
-            Some(latest) => {
-                latest.container.as_slice() == container && latest.object.name.as_slice() == name
-            }
-            None => false,
-        }
-    }
-
     /// Keeps the object that was read last, or none.
     fn keep(&mut self, latest: Option<Latest>)
         ensures latest { self.new.latest ≡ latest }
@@ -304,6 +372,23 @@ impl<S: Alter + Drop> KeptShelf<S> {
         ensures connection { self.new.connection ≡ self.old.connection }
     {
         self.latest = latest;
+    }
+
+    /// Appends the bytes of a body that stands in a file.
+    fn read_file(
+        &mut self,
+        place: Place,
+        from: u64,
+        end: u64,
+        out: &mut Bytes,
+    ) -> Result<(), StoreFault>
+        ensures faults { CountsStoreFaults self.old.faults self.new.faults result }
+        ensures err { OnErr result (out.new ≡ out.old) }
+    {
+        match self.beside.bodies.read(place, from, end) {
+            Ok(part) => Ok(append_part(part, out)?),
+            Err(fault) => Err(self.unread_body(fault)),
+        }
     }
 
     /// Reads the object of that name, where it is there, and keeps it.
@@ -322,168 +407,51 @@ impl<S: Alter + Drop> KeptShelf<S> {
     }
 }
 
-fn bytes_at(row: &sqlite::Row, at: usize) -> Result<Bytes, Error> {
-    let bytes: Vec<u8> = row.get(at)?;
-    Ok(Bytes::from_vec(bytes))
-}
-
-fn row_in(row: &sqlite::Row) -> Result<Row, Error> {
-    Ok(Row {
-        kind: row.get(0)?,
-        content_type: bytes_at(row, 1)?,
-        meta: bytes_at(row, 2)?,
-        size: row.get(3)?,
-        hash: bytes_at(row, 4)?,
-        body: bytes_at(row, 5)?,
-    })
-}
-
-/// The fault where a column of a row isn't of its type.
-fn fault_of_columns(error: Error) -> RowFault {
-    if is_out_of_memory(error) {
-        RowFault::Memory
-    } else {
-        RowFault::Unread
+fn settle_beside(beside: &Beside, numbers: &[u64]) -> Result<Settled, FileFault> {
+    match settle(&beside.bodies, numbers) {
+        Ok(settled) => Ok(settled),
+        Err(fault) => Err(fault_of_beside(fault)),
     }
 }
 
-/// The object of a row, where there is one.
-fn found_in(
+/// The row of an object whose body stands in the file of a number, or in the row where there is none.
+fn row_to_put(
     alloc: Global,
-    container: &[u8],
-    name: &[u8],
-    row: Option<sqlite::Row>,
-) -> Result<Option<Latest>, RowFault> {
-    match row {
-        Some(row) => Ok(Some(latest_in(alloc, container, name, &row)?)),
-        None => Ok(None),
-    }
-}
-
-/// The object of a row, whose hash isn't looked at.
-fn latest_in(
-    alloc: Global,
-    container: &[u8],
-    name: &[u8],
-    row: &sqlite::Row,
-) -> Result<Latest, RowFault> {
-    let row = match row_in(row) {
-        Ok(row) => row,
-        Err(error) => return Err(fault_of_columns(error)),
-    };
-    let container = Bytes::from_slice(alloc, container)?;
-    let object = object_of(alloc, name, row)?;
-    Ok(Latest { container, object })
-}
-
-fn object_of(alloc: Global, name: &[u8], row: Row) -> Result<Stored, RowFault>
-    ensures { ReadsColumns name.now (record row { hash = [] }) result }
+    object: &Stored,
+    etag: Bytes,
+    number: Option<u64>,
+) -> Result<Row, Memory>
+    requires row { HasRow object.now }
+    requires etag { etag ≡ etag_of object.now.content }
+    ensures { IfOk result (IsRowOf object.now) }
 {
-    let Row {
-        kind,
-        content_type,
-        meta,
-        size,
-        hash: _,
-        body,
-    } = row;
-    object_of_columns(
-        alloc,
-        name,
-        kind,
-        content_type.as_slice(),
-        meta.as_slice(),
-        size,
-        body,
-    )
-}
-
-/// Appends the own bytes of an object from one place to another, where these are within.
-fn append_range(content: &Content, from: u64, end: u64, out: &mut Bytes) -> Result<(), Memory>
-    ensures { OnErr result (out.new ≡ out.old) }
-{
-    match content {
-        Content::Plain(bytes) => {
-            if from <= end && end <= bytes.len() as u64 {
-                out.append(&bytes.as_slice()[from as usize..end as usize])?;
-            }
-            Ok(())
+    match number {
+        Some(number) => {
+            let place = Bytes::from_slice(alloc, &number.to_be_bytes())?;
+            row_with_place(alloc, object, etag, place)
         }
-        Content::Segments(_) => Ok(()),
+        None => row_with_etag(alloc, object, etag),
     }
 }
 
-const NO_MEMORY: Error = Error::SqliteFailure(ErrorCode::OutOfMemory);
-
-/// A column has what no call put there.
-const UNREAD: Error = Error::SqliteFailure(ErrorCode::DatabaseCorrupt);
-
-/// The read list and the creation time of a container that a row tells.
-fn container_in(row: &sqlite::Row) -> Result<(ReadList, Option<u64>), Error>
-    ensures { IfOk result (λ told. IfSome told.1 IsMoment) }
-{
-    let readers = readers_in(row)?;
-    let created = created_in(row)?;
-    Ok((readers, created))
-}
-
-fn readers_in(row: &sqlite::Row) -> Result<ReadList, Error> {
-    let readers: u64 = row.get(0)?;
-    match readers {
-        0 => Ok(ReadList::Nobody),
-        1 => Ok(ReadList::Everybody),
-        _ => Err(UNREAD),
+/// Before the statement that ends a row: a start keeps the file or removes it, as the row is there.
+fn retire_body(bodies: &BodyFolder, number: Option<u64>) {
+    if let Some(number) = number {
+        let _ = bodies.retire(number);
     }
 }
 
-fn created_in(row: &sqlite::Row) -> Result<Option<u64>, Error>
-    ensures { IfOk result (λ created. IfSome created IsMoment) }
-{
-    let created: Option<u64> = row.get(1)?;
-    match created {
-        Some(moment) => {
-            if moment >= MOMENT_LIMIT {
-                return Err(UNREAD);
-            }
-            Ok(created)
-        }
-        None => Ok(None),
+/// After the statement that told of it.
+fn keep_body(bodies: &BodyFolder, number: Option<u64>) {
+    if let Some(number) = number {
+        let _ = bodies.keep(number);
     }
 }
 
-/// The names of containers that rows tell.
-fn names_in(alloc: Global, rows: &[sqlite::Row]) -> Result<List<Bytes>, Error> {
-    let mut names = List::new(alloc);
-    for row in rows {
-        if names.push(bytes_at(row, 0)?).is_err() {
-            return Err(NO_MEMORY);
-        }
-    }
-    Ok(names)
-}
-
-/// The objects that rows tell, up to the first whose name hasn't the prefix.
-#[tactic(auto, using(crate::proofs::ListedItems::one_more))]
-fn items_in(alloc: Global, prefix: &[u8], rows: &[sqlite::Row]) -> Result<List<NameItem>, Error>
-    ensures { IfOk result (All (HasPrefix prefix.now)) }
-{
-    let mut items = List::new(alloc);
-    for row in rows {
-        let item = item_in(row)?;
-        if !item.name.as_slice().starts_with(prefix) {
-            return Ok(items);
-        }
-        add_item(&mut items, item)?;
-    }
-    Ok(items)
-}
-
-fn add_item(items: &mut List<NameItem>, item: NameItem) -> Result<(), Error>
-    ensures { OnOk result (items.new ≡ items.old ++ item ∷ []) }
-{
-    match items.push(item) {
-        Ok(()) => Ok(()),
-        Err(_) => Err(NO_MEMORY),
+/// After the statement that ended its row.
+fn drop_body(bodies: &BodyFolder, number: Option<u64>) {
+    if let Some(number) = number {
+        let _ = bodies.remove(number);
     }
 }
 
@@ -497,34 +465,6 @@ fn bound_of(alloc: Global, prefix: &[u8]) -> Result<Bytes, Memory> {
         }
         [] => Bytes::from_slice(alloc, &[255]),
     }
-}
-
-fn item_in(row: &sqlite::Row) -> Result<NameItem, Error> {
-    Ok(NameItem {
-        name: bytes_at(row, 0)?,
-        content_type: bytes_at(row, 1)?,
-        size: row.get(2)?,
-        hash: bytes_at(row, 3)?,
-    })
-}
-
-/// The head that a row tells. Its kind is 0 or 1.
-fn head_in(alloc: Global, row: &sqlite::Row) -> Result<StoredHead, Error> {
-    let kind: u64 = row.get(0)?;
-    if kind > LIST {
-        return Err(UNREAD);
-    }
-    let meta: Vec<u8> = row.get(2)?;
-    let Ok(meta) = pieces_of(alloc, &meta) else {
-        return Err(NO_MEMORY);
-    };
-    Ok(StoredHead {
-        content_type: bytes_at(row, 1)?,
-        size: row.get(3)?,
-        etag: bytes_at(row, 4)?,
-        manifest: kind == LIST,
-        meta,
-    })
 }
 
 fn segments_of(object: Stored) -> Option<List<Segment>> {
@@ -664,12 +604,12 @@ impl<S: Alter + Drop> Shelf for KeptShelf<S> {
         end: u64,
         out: &mut Bytes,
     ) -> Result<(), StoreFault> {
-        if !self.is_latest(container, name) {
+        if !is_latest(&self.latest, container, name) {
             self.look_up(container, name)?;
         }
-        match &self.latest {
-            Some(latest) => Ok(append_range(&latest.object.content, from, end, out)?),
-            None => Ok(()),
+        match place_of_latest(&self.latest) {
+            Some(place) => self.read_file(place, from, end, out),
+            None => Ok(append_latest(&self.latest, from, end, out)?),
         }
     }
 
@@ -678,15 +618,17 @@ impl<S: Alter + Drop> Shelf for KeptShelf<S> {
         requires made { IsMadeObject object.name (object_of object) }
         ensures writes { ShelfWrites (put_file container.now object.name (object_of object))
             (kept_model self.old.faults) result (kept_model self.new.faults) }
-        ensures runs { OnOk result
-            (Executed PUT.now (put_values container.now object.name (row_of object))
-            (state S.Store self.old.connection) (state S.Store self.new.connection)) }
+        ensures runs { OnOk result (Puts (state S.Store) container.now object
+            self.old.connection self.new.connection) }
     {
         self.put_object(container, &object, etag)
     }
 
     fn remove(&mut self, container: &[u8], name: &[u8]) -> Result<bool, StoreFault> {
+        let before = self.look_for_place(container, name)?;
+        retire_body(&self.beside.bodies, before);
         let count = self.written(statements::REMOVE, params![container, name])?;
+        drop_body(&self.beside.bodies, before);
         Ok(count > 0)
     }
 }

@@ -35,6 +35,17 @@ row_of s = record {
   body = body_of s.content;
 }
 
+-- the row of an object whose own bytes stand at a place, which the row has for a body
+abbrev pub placed_row : List ℕ → Stored → Row
+placed_row place s = record {
+  kind = 2;
+  content_type = s.content_type;
+  meta = joined s.meta;
+  size = size_of s.content;
+  hash = etag_of s.content;
+  body = place;
+}
+
 -- what a row can have: bytes, or a list of 1 to 1000 segments as a manifest may list them
 abbrev pub IsListed : Content → Type 0
 IsListed (Plain bytes) = ⊤

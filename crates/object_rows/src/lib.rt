@@ -5,4 +5,7 @@ mod pieces;
 mod row;
 
 pub use pieces::pieces_of;
-pub use row::{Row, RowFault, from_row, object_of_columns, row_with_etag, to_row};
+pub use row::{
+    Columns, PLACED, Row, RowFault, from_row, object_of_columns, row_with_etag, row_with_place,
+    to_row,
+};

@@ -2,7 +2,7 @@
 ghost use Rattle.std.specs.Prelude.{◌≡◌, ◌<◌, ◌&&◌, ℕ, List, [], Ok, IfOk, bytes_eq, nat_eq, nat_lt, sum_by};
 ghost use Rattle.object_rows.specs.Pieces.{pieces_of};
 ghost use Rattle.swift_calls.specs.Bodies.{etag_of, etag_text};
-ghost use Rattle.object_rows.specs.Rows.{kind_of, body_of, has_columns, HasRow, IsRowContent, ReadsColumns, ReadsContent, ReadsList, ReadsRow, row_of};
+ghost use Rattle.object_rows.specs.Rows.{kind_of, body_of, has_columns, HasRow, IsRowContent, ReadsColumns, ReadsContent, ReadsList, ReadsRow, placed_row, row_of};
 ghost use Rattle.object_rows.specs.declared.row.RowFault.TheVariants as faults;
 
 use crate::pieces::{joined, pieces_of};
@@ -19,6 +19,9 @@ const PLAIN: u64 = 0;
 
 /// The kind of an object that lists segments.
 const LIST: u64 = 1;
+
+/// The kind of an object whose own bytes stand elsewhere: its row has their place for a body.
+pub const PLACED: u64 = 2;
 
 /// The sizes of segments have a sum below this.
 const SIZE_LIMIT: u64 = 1 << 63;
@@ -79,6 +82,27 @@ pub fn row_with_etag(alloc: Global, object: &Stored, etag: Bytes) -> Result<Row,
         size: object.content.size(),
         hash: etag,
         body: body_of(alloc, &object.content)?,
+    })
+}
+
+/// The row of an object whose ETag is known and whose own bytes stand at a place. No byte of the body is copied.
+pub fn row_with_place(
+    alloc: Global,
+    object: &Stored,
+    etag: Bytes,
+    place: Bytes,
+) -> Result<Row, Memory>
+    requires row { HasRow object.now }
+    requires etag { etag ≡ etag_of object.now.content }
+    ensures { IfOk result (λ row. row ≡ placed_row place object.now) }
+{
+    Ok(Row {
+        kind: PLACED,
+        content_type: object.content_type.copy()?,
+        meta: joined(alloc, object.meta.as_slice())?,
+        size: object.content.size(),
+        hash: etag,
+        body: place,
     })
 }
 
@@ -145,62 +169,64 @@ fn object_of_row(alloc: Global, name: &[u8], row: &Row) -> Result<Stored, RowFau
     ensures { ReadsColumns name.now row.now result }
 {
     let body = row.body.copy()?;
-    object_of_columns(
-        alloc,
-        name,
-        row.kind,
-        row.content_type.as_slice(),
-        row.meta.as_slice(),
-        row.size,
-        body,
-    )
+    let columns = Columns {
+        kind: row.kind,
+        content_type: row.content_type.as_slice(),
+        meta: row.meta.as_slice(),
+        size: row.size,
+    };
+    object_of_columns(alloc, name, &columns, body)
+}
+
+/// The columns of a row, but for the hash and the bytes of the content.
+#[derive(Drop)]
+pub struct Columns<'a> {
+    pub kind: u64,
+    pub content_type: &'a [u8],
+    pub meta: &'a [u8],
+    pub size: u64,
 }
 
 /// The same by the other columns. The body is taken: the bytes of a plain object are not copied.
 pub fn object_of_columns(
     alloc: Global,
     name: &[u8],
-    kind: u64,
-    content_type: &[u8],
-    meta: &[u8],
-    size: u64,
+    columns: &Columns<'_>,
     body: Bytes,
 ) -> Result<Stored, RowFault>
     ensures { ReadsColumns name.now (record {
-      kind = kind;
-      content_type = content_type.now;
-      meta = meta.now;
-      size = size;
+      kind = columns.now.kind;
+      content_type = columns.now.content_type.now;
+      meta = columns.now.meta.now;
+      size = columns.now.size;
       hash = [];
       body = body;
     }) result }
 {
-    let content = content_of(alloc, kind, body)?;
-    object_with_content(alloc, name, content_type, meta, size, content)
+    let content = content_of(alloc, columns.kind, body)?;
+    object_with_content(alloc, name, columns, content)
 }
 
 /// The same by what the body stands for.
 fn object_with_content(
     alloc: Global,
     name: &[u8],
-    content_type: &[u8],
-    meta: &[u8],
-    size: u64,
+    columns: &Columns<'_>,
     content: Content,
 ) -> Result<Stored, RowFault>
     requires { IsRowContent content }
     ensures { (kind : ℕ) (body : List ℕ) → ReadsContent kind body (Ok content)
         → ReadsColumns name.now (record {
           kind = kind;
-          content_type = content_type.now;
-          meta = meta.now;
-          size = size;
+          content_type = columns.now.content_type.now;
+          meta = columns.now.meta.now;
+          size = columns.now.size;
           hash = [];
           body = body;
         }) result }
 {
-    let object = named_object(alloc, name, content_type, meta, content)?;
-    if has_columns(alloc, &object, meta, size)? {
+    let object = named_object(alloc, name, columns, content)?;
+    if has_columns(alloc, &object, columns.meta, columns.size)? {
         Ok(object)
     } else {
         Err(RowFault::Unread)
@@ -211,19 +237,18 @@ fn object_with_content(
 fn named_object(
     alloc: Global,
     name: &[u8],
-    content_type: &[u8],
-    meta: &[u8],
+    columns: &Columns<'_>,
     content: Content,
 ) -> Result<Stored, Memory>
     ensures named { IfOk result (λ s. s.name ≡ name.now) }
-    ensures typed { IfOk result (λ s. s.content_type ≡ content_type.now) }
-    ensures pieces { IfOk result (λ s. s.meta ≡ pieces_of meta.now) }
+    ensures typed { IfOk result (λ s. s.content_type ≡ columns.now.content_type.now) }
+    ensures pieces { IfOk result (λ s. s.meta ≡ pieces_of columns.now.meta.now) }
     ensures content { IfOk result (λ s. s.content ≡ content) }
 {
     Ok(Stored {
         name: Bytes::from_slice(alloc, name)?,
-        content_type: Bytes::from_slice(alloc, content_type)?,
-        meta: pieces_of(alloc, meta)?,
+        content_type: Bytes::from_slice(alloc, columns.content_type)?,
+        meta: pieces_of(alloc, columns.meta)?,
         content,
     })
 }

@@ -1,5 +1,5 @@
 -- What the words that follow the program's name ask for (this profile).
-use Rattle.std.specs.Prelude.{◌≡◌, ◌≢◌, ℕ, Bool, true, ◌&&◌, ◌||◌, ◌==◌, nat_le, if◌then◌else◌, List, length, map, codes, Option, Some, None}
+use Rattle.std.specs.Prelude.{◌≡◌, ◌≢◌, ℕ, Bool, true, ◌&&◌, ◌||◌, ◌==◌, nat_le, if◌then◌else◌, List, [], ◌∷◌, bytes_eq, length, map, codes, Option, Some, None}
 use Rattle.std.specs.Prelude.{option_and_then, Result, Ok, Err, String, string_bytes}
 use Rattle.std.specs.List.{list_all}
 use Rattle.std.specs.Str.Parse.{digits_value}
@@ -95,6 +95,11 @@ asked_of words = option_and_then asked_in (met_in (map string_bytes words))
 abbrev pub file_of : Option Asked → Option (List ℕ)
 file_of None = None
 file_of (Some asked) = asked.file
+
+-- the path of the file whose tables are written anew: `--file PATH --compact`, and nothing else
+abbrev pub compacted_in : List Text → Option (List ℕ)
+compacted_in (option ∷ path ∷ compact ∷ []) = if bytes_eq option (codes "--file") && bytes_eq compact (codes "--compact") && is_file_path path then Some path else None
+compacted_in words = None
 
 -- what reading the path answers; memory may run out for any
 abbrev pub ReadsFile : Option (List ℕ) → Result (Option (List ℕ)) WordsFault → Type 0

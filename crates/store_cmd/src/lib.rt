@@ -12,3 +12,4 @@ mod words;
 
 pub use command::{run_store, shelf_file};
 pub use laws::{law_failed_is_counted, law_unavailable_within_faults};
+pub use words::compacted_file;

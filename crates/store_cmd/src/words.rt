@@ -5,7 +5,7 @@ ghost use Rattle.clap.specs.Words.{app_of, found_of, kind_of, rows_of, rule_of};
 ghost use Rattle.clap.specs.Simple.{new_app, on_top, with_rule};
 ghost use Rattle.swift_requests.specs.Place.{IsPlace};
 ghost use Rattle.store_cmd.specs.Run.{place_by};
-ghost use Rattle.store_cmd.specs.Words.{FaultOf, Parses, ReadsFile, ReadsWords, asked_by, asked_in, asked_of, asked_with_store_names, store_connection_count, is_count, is_file_path, is_name, is_name_byte, needed_rule, optional_rule, store_app, with_settings};
+ghost use Rattle.store_cmd.specs.Words.{FaultOf, Parses, ReadsFile, ReadsWords, asked_by, asked_in, asked_of, asked_with_store_names, compacted_in, store_connection_count, is_count, is_file_path, is_name, is_name_byte, needed_rule, optional_rule, store_app, with_settings};
 ghost use Rattle.store_cmd.specs.declared.words.WordsFault.TheVariants as faults;
 
 use clap::error::ErrorKind;
@@ -56,6 +56,23 @@ impl From<AllocError> for WordsFault {
 
     fn from(_: AllocError) -> WordsFault {
         WordsFault::Memory
+    }
+}
+
+/// The path of the file whose tables are written anew: the words are `--file`, a path of 1 to 4096 bytes and `--compact`.
+pub fn compacted_file(words: &[String]) -> Option<&str>
+    ensures { option_map (λ text. text.now) result ≡ compacted_in (map string_bytes words.now) }
+{
+    match words {
+        [option, path, compact] => {
+            let is_asked = option.as_str() == "--file" && compact.as_str() == "--compact";
+            if is_asked && is_file_path(path.as_bytes()) {
+                Some(path.as_str())
+            } else {
+                None
+            }
+        }
+        _ => None,
     }
 }
 

@@ -8,11 +8,13 @@ use environment::{
 };
 use gate_base::{Line, List, MemLine, NoCount, StdSink};
 use kept_store::{
-    Alter, Connection, FileConnection, FileFault, KeptShelf, close_file, fault_of_adopted_file,
-    open_file,
+    Alter, Beside, Connection, FileConnection, FileFault, KeptShelf, Settled, close_file,
+    compact_file, open_beside, open_file,
 };
+use std::io::Write;
 use std::process::ExitCode;
-use store_cmd::{run_store, shelf_file};
+use std::str;
+use store_cmd::{compacted_file, run_store, shelf_file};
 use swift_store::{MapShelf, Shelf};
 
 /// The exit status where memory ran out before the run began.
@@ -48,18 +50,39 @@ fn start(rt: &HostRuntime) -> Result<u8, SetupFault> {
             Ok(mut line) => run_over(rt, &words, &mut line, &mut MapShelf::new(rt.alloc())),
             Err(_) => Ok(MEMORY),
         }
+    } else if let Some(path) = compacted_file(&words) {
+        compact(rt, path)
     } else {
         match shelf_file(rt.alloc(), &words)? {
-            Some(path) => serve_file(rt, &words, path.as_slice()),
+            Some(path) => serve_file(rt, &words, text_of_path(path.as_slice())?),
             None => serve(rt, &words, &mut MapShelf::new(rt.alloc())),
         }
     }
 }
 
+/// Writes the tables of a file anew, and ends.
+fn compact(rt: &HostRuntime, path: &str) -> Result<u8, SetupFault> {
+    match compact_file(rt, path, most_bytes(rt)) {
+        Ok(()) => Ok(0),
+        Err(fault) => Err(file_setup_fault(fault)),
+    }
+}
+
+fn text_of_path(path: &[u8]) -> Result<&str, SetupFault> {
+    match str::from_utf8(path) {
+        Ok(text) => Ok(text),
+        Err(_) => Err(SetupFault::Variable(FILE, Why::NotText)),
+    }
+}
+
 /// A run over the clients that come, from the shelf of a file. At its end what stands in the log beside the file is written into it.
-fn serve_file(rt: &HostRuntime, words: &[String], path: &[u8]) -> Result<u8, SetupFault> {
+fn serve_file(rt: &HostRuntime, words: &[String], path: &str) -> Result<u8, SetupFault> {
     let connection = connection_to_file(rt, path)?;
-    match serve_connection(rt, words, connection) {
+    let beside = match open_beside(rt, path) {
+        Ok(beside) => beside,
+        Err(fault) => return Err(file_setup_fault(fault)),
+    };
+    match serve_connection(rt, words, connection, beside) {
         Ok((status, connection)) => {
             close_file(connection);
             status
@@ -73,13 +96,26 @@ fn serve_connection<S: Alter + Drop>(
     rt: &HostRuntime,
     words: &[String],
     connection: Connection<S>,
+    beside: Beside,
 ) -> Result<(Result<u8, SetupFault>, Connection<S>), SetupFault> {
-    let mut shelf = match KeptShelf::adopt(rt.alloc(), connection) {
+    let mut shelf = match KeptShelf::adopt(rt.alloc(), connection, beside) {
         Ok(shelf) => shelf,
-        Err(fault) => return Err(file_setup_fault(fault_of_adopted_file(fault))),
+        Err(fault) => return Err(file_setup_fault(fault)),
     };
+    report_settled(rt, shelf.settled());
     let status = serve(rt, words, &mut shelf);
     Ok((status, shelf.release()))
+}
+
+/// Says what no stop leaves, where the start found such: bodies of which no row tells, which it set aside, and rows without a body.
+fn report_settled(rt: &HostRuntime, settled: Settled) {
+    let mut output = rt.stderr();
+    if settled.lost > 0 {
+        let _ = output.write_all(b"swiftd: --file: bodies of which no row tells\n");
+    }
+    if settled.missing > 0 {
+        let _ = output.write_all(b"swiftd: --file: rows whose body is missing\n");
+    }
 }
 
 /// A run over the clients that come. The shelf is there before the program listens. What is kept for slow clients is sent before
@@ -103,24 +139,29 @@ fn run_over<N: Line<NoCount>, S: Shelf>(
 
 /// A connection to the file of this path, which is made where there is none. One of more than half of the machine's memory is
 /// refused.
-fn connection_to_file(rt: &HostRuntime, path: &[u8]) -> Result<FileConnection, SetupFault> {
-    let most = match machine_memory(rt) {
-        Some(bytes) => bytes / 2,
-        None => u64::MAX,
-    };
-    match open_file(rt, path, most) {
+fn connection_to_file(rt: &HostRuntime, path: &str) -> Result<FileConnection, SetupFault> {
+    match open_file(rt, path, most_bytes(rt)) {
         Ok(connection) => Ok(connection),
         Err(fault) => Err(file_setup_fault(fault)),
+    }
+}
+
+/// Half of the machine's memory.
+fn most_bytes(rt: &HostRuntime) -> u64 {
+    match machine_memory(rt) {
+        Some(bytes) => bytes / 2,
+        None => u64::MAX,
     }
 }
 
 fn file_setup_fault(fault: FileFault) -> SetupFault {
     let why = match fault {
         FileFault::Memory => return SetupFault::Memory,
-        FileFault::NotText => Why::NotText,
         FileFault::TooLarge => Why::TooLarge,
         FileFault::InUse => Why::FileInUse,
         FileFault::NoDatabase => Why::NoDatabase,
+        FileFault::DamagedLog => Why::DamagedLog,
+        FileFault::Behind => Why::Behind,
         FileFault::DiskFull => Why::DiskFull,
         FileFault::CannotOpen => Why::CannotOpen,
     };

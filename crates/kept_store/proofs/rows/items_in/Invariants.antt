@@ -1,6 +1,6 @@
 use Rattle.std.specs.List.{All}
 use Rattle.kept_store.specs.Kept.{HasPrefix}
-use Rattle.kept_store.proofs.kept_shelf.items_in.Given as goal
+use Rattle.kept_store.proofs.rows.items_in.Given as goal
 
 abbrev pub invariant-loop-row : goal.invariant-loop-row
 invariant-loop-row l = All (HasPrefix l.prefix) l.items
