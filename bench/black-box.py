@@ -3356,21 +3356,22 @@ def a_file_on_a_full_disk(check):
                     return [both(client.reply()) for _ in range(done)] == [(200, body)] * done
 
             with Swiftd(words=words) as store:
-                with store.client(swift("PUT", f"{root}/b", NOBODY)) as client:
-                    client.reply()
+                with store.client(swift("PUT", f"{root}/b", NOBODY), swift("PUT", f"{root}/b/spare", [("Content-Type", "t")], body)) as client:
+                    client.replies(2)
                 while done < 200 and put(store, done) == 201:
                     done += 1
                 check("a disk has an end", True, 5 < done < 200)
-                with store.client(swift("DELETE", f"{root}/b/0"), swift("GET", f"{root}/b/k")) as client:
-                    check("on a full one a write is refused, and the end", [503, None], [client.reply().status, client.reply()])
+                check("on a full one no object is put, nor over another", [503, 503], [put(store, "more"), put(store, "0", body[::-1])])
                 check("and what was answered is there", True, are_whole(store))
                 store.signal(signal.SIGKILL)
                 store.ended()
             with Swiftd(words=words) as store:
                 check("also after a kill", True, are_whole(store))
-                check("a write is still refused", 503, put(store, "0", b"other"))
+                check("no object is put still", 503, put(store, "more"))
+                with store.client(swift("DELETE", f"{root}/b/spare")) as client:
+                    check("one that goes makes room", [204, 201], [client.reply().status, put(store, "more")])
                 subprocess.run(["mount", "-o", "remount,size=40m", folder], check=True)
-                check("until there is room", [201, True], [put(store, done), are_whole(store)])
+                check("and more of the disk does", [201, True], [put(store, done), are_whole(store)])
             full = os.path.join(folder, "full")
             with open(full, "wb") as file, contextlib.suppress(OSError):
                 while True:
@@ -3380,6 +3381,148 @@ def a_file_on_a_full_disk(check):
             check("and a new file finds none", (9, b"", b"swiftd: setup\n--file: no room on the disk\n"), again)
         finally:
             subprocess.run(["umount", folder], check=True)
+
+
+def bodies_of(file):
+    """The names of the files in which larger bodies stand, in order."""
+    return sorted(os.listdir(file + "-bodies"))
+
+
+def turn_bit(path, at, bit=1):
+    with open(path, "r+b") as file:
+        file.seek(at)
+        byte = file.read(1)[0]
+        file.seek(at)
+        file.write(bytes([byte ^ bit]))
+
+
+@group()
+def larger_bodies_stand_in_files(check):
+    root, sizes = f"/v1/{ACCOUNT}", {"a": 256, "b": 257, "c": 65536, "d": 65537, "e": 300000}
+    bodies = {name: random.Random(size).randbytes(size) for name, size in sizes.items()}
+    with tempfile.TemporaryDirectory() as folder:
+        file = os.path.join(folder, "store.db")
+        words = ["--file", file]
+        with Swiftd(words=words) as store:
+            with store.client(swift("PUT", f"{root}/b", NOBODY), *(swift("PUT", f"{root}/b/{name}", [("Content-Type", "t")], body) for name, body in bodies.items())) as client:
+                check("bodies of several sizes are put", [201] * 6, client.replies(6))
+            files = bodies_of(file)
+            check("each of more than 256 bytes has a file, by a number that rises", (4, True), (len(files), all(re.fullmatch("[0-9a-f]{16}", it) for it in files)))
+            for it, (name, body) in zip(files, list(bodies.items())[1:]):
+                with open(os.path.join(file + "-bodies", it), "rb") as held:
+                    text = held.read()
+                number, size = bytes.fromhex(it), len(body)
+                sums = b"".join(hashlib.md5(number + (at // 65536).to_bytes(8, "big") + body[at : at + 65536]).digest() for at in range(0, size, 65536))
+                check(f"the file of {name} is its body and the sums of its pieces", True, text == body + sums)
+            ranges = [("e", 0, 0), ("e", 65535, 65536), ("e", 131072, 196607), ("e", 299999, 400000), ("d", 65536, 65536), ("b", 0, 256)]
+            with store.client(*(swift("GET", f"{root}/b/{name}", [("Range", f"bytes={first}-{last}")]) for name, first, last in ranges)) as client:
+                check("parts of them are read", [(206, bodies[name][first : last + 1]) for name, first, last in ranges], [both(client.reply()) for _ in ranges])
+            with store.client(swift("PUT", f"{root}/b/c", [("Content-Type", "t")], b"short"), swift("DELETE", f"{root}/b/d"), swift("PUT", f"{root}/b/e", [("Content-Type", "t")], bodies["e"][::-1]), swift("GET", f"{root}/b/e")) as client:
+                check("one is put over by a short one, one deleted, one put over", [201, 204, 201, (200, bodies["e"][::-1])], client.replies(3) + [both(client.reply())])
+            now = bodies_of(file)
+            check("what is gone has no file, and no number comes again", ([files[0]], 1, True), (now[:1], len(now) - 1, now[-1] > files[-1]))
+            store.signal(signal.SIGKILL)
+            store.ended()
+        # What no stop leaves: a file without a row, and a row without a file.
+        os.rename(os.path.join(file + "-bodies", now[-1]), os.path.join(folder, "away"))
+        shutil.copy(os.path.join(folder, "away"), os.path.join(file + "-bodies", "00000000000fffff"))
+        # What a stop leaves: one that was written, and one whose call ended its row.
+        for it in ("00000000000ffffe.new", "00000000000ffffd.old"):
+            shutil.copy(os.path.join(folder, "away"), os.path.join(file + "-bodies", it))
+        with Swiftd(words=words, SWIFTD_LOG="on") as store:
+            check("a start removes what a stop left, and sets aside what none leaves", [now[0], "00000000000fffff.lost"], bodies_of(file))
+            with store.client(swift("GET", f"{root}/b/e"), swift("GET", f"{root}/b/b")) as client:
+                check("a body that is missing, and the end", [503, None], [client.reply().status, client.reply()])
+            with store.client(swift("GET", f"{root}/b/b"), swift("PUT", f"{root}/b/e", [("Content-Type", "t")], bodies["e"]), swift("GET", f"{root}/b/e")) as client:
+                check("others are served, and it can be put over", [(200, bodies["b"]), 201, (200, bodies["e"])], [both(client.reply()), client.reply().status, both(client.reply())])
+            check("its number is above that of what was set aside", True, bodies_of(file)[-1] > "00000000000fffff.lost")
+            store.signal(signal.SIGTERM)
+            said = store.ended()[1].decode()
+        check("the start says both", [True, True], ["swiftd: --file: bodies of which no row tells\n" in said, "swiftd: --file: rows whose body is missing\n" in said])
+        os.remove(os.path.join(file + "-bodies", "00000000000fffff.lost"))
+        held = os.path.join(file + "-bodies", bodies_of(file)[-1])
+        with open(held, "rb") as it:
+            whole = it.read()
+        swapped = whole[65536:131072] + whole[:65536] + whole[131072:300000] + whole[300016:300032] + whole[300000:300016] + whole[300032:]
+        faults = [("a bit of a piece", bytes([whole[0] ^ 1]) + whole[1:]), ("two pieces with their sums, exchanged", swapped), ("a file that is cut", whole[:-1]), ("another body's file", open(os.path.join(file + "-bodies", now[0]), "rb").read())]
+        with Swiftd(words=words) as store:
+            for title, text in faults:
+                with open(held, "wb") as it:
+                    it.write(text)
+                with store.client(swift("GET", f"{root}/b/e"), swift("GET", f"{root}/b/b")) as client:
+                    check(f"{title}, and the end", [503, None], [client.reply().status, client.reply()])
+            with open(held, "wb") as it:
+                it.write(bytes([whole[0] ^ 1]) + whole[1:])
+            with store.client(swift("GET", f"{root}/b/e", [("Range", "bytes=65536-299999")]), swift("GET", f"{root}/b/b")) as client:
+                check("the pieces beside a damaged one, and another object", [(206, bodies["e"][65536:]), (200, bodies["b"])], [both(client.reply()) for _ in range(2)])
+
+
+@group()
+def a_log_that_was_cut_is_refused(check):
+    root = f"/v1/{ACCOUNT}"
+    names = [f"k{at:02}" for at in range(20)]
+    with tempfile.TemporaryDirectory() as folder:
+        file = os.path.join(folder, "store.db")
+        words = ["--token", "t", "--account", "a", "--connections", "1", "--file", file]
+        with Swiftd(words=words[6:]) as store, store.client(swift("PUT", f"{root}/b", NOBODY), *(swift("PUT", f"{root}/b/{name}", [("Content-Type", "t")], name.encode()) for name in names)) as client:
+            check("small objects are put", [201] * 21, client.replies(21))
+            store.signal(signal.SIGKILL)
+            store.ended()
+        log = file + "-wal"
+        with open(log, "rb") as it:
+            whole = it.read()
+        # The frames that have a page, and which of them end a commit (SQLite's file format, section 4.1).
+        frames = [at for at in range(32, len(whole) - 4119, 4120) if any(whole[at : at + 24])]
+        marks = [at for at in frames if any(whole[at + 4 : at + 8])]
+        check("each write is a commit", True, len(marks) >= 21)
+        last = [at for at in frames if marks[-2] < at]
+
+        def refused(title, at, why):
+            turn_bit(log, at)
+            before = [open(it, "rb").read() for it in (file, log, file + "-commits")]
+            check(f"a bit turned in {title}", (9, b"", f"swiftd: setup\n--file: {why}\n".encode()), ran(SWIFTD, words, SWIFTD_LISTEN=NOWHERE))
+            return before == [open(it, "rb").read() for it in (file, log, file + "-commits")]
+
+        for title, at in (("the log's header", 9), ("a page", frames[10] + 100), ("a frame's sums", frames[10] + 17), ("a frame's salt", frames[10] + 13), ("the last commit but one", marks[-2] + 1000)):
+            check("which leaves all as it was", True, refused(title, at, "a damaged log"))
+            turn_bit(log, at)
+        missing = "changes that were answered are missing"
+        refused("the last commit", last[-1] + 500, missing)
+        check("also by the next start", (9, b"", f"swiftd: setup\n--file: {missing}\n".encode()), ran(SWIFTD, words, SWIFTD_LISTEN=NOWHERE))
+        # As what is there is taken.
+        os.remove(file + "-commits")
+        with Swiftd(words=words[6:]) as store, store.client(*(swift("GET", f"{root}/b/{name}") for name in names)) as client:
+            check("without the number what is there is served", [(200, name.encode()) for name in names[:-1]] + [404], [both(client.reply()) for _ in names[:-1]] + [client.reply().status])
+
+
+@group()
+def a_file_is_compacted(check):
+    root = f"/v1/{ACCOUNT}"
+    bodies = {f"k{at:04}": random.Random(at).randbytes(200 + at) for at in range(1200)}
+    with tempfile.TemporaryDirectory() as folder:
+        file = os.path.join(folder, "store.db")
+        words, compact = ["--file", file], ["--file", file, "--compact"]
+        check("a file that isn't there isn't compacted", (9, b"", b"swiftd: setup\n--file: cannot be opened and written\n"), ran(SWIFTD, compact))
+        check("and not made", [], os.listdir(folder))
+        kept = [name for at, name in enumerate(bodies) if at % 12 == 0]
+        with Swiftd(2, words=words) as store:
+            with store.client(swift("PUT", f"{root}/b", NOBODY), *(swift("PUT", f"{root}/b/{name}", [("Content-Type", "t"), ("X-Object-Meta-S3-0", "[a]")], body) for name, body in bodies.items())) as client:
+                check("objects are put", {201}, set(client.replies(1201)))
+            with store.client(*(swift("DELETE", f"{root}/b/{name}") for name in bodies if name not in kept)) as client:
+                check("and most of them deleted", {204}, set(client.replies(1100)))
+            with store.client() as client:
+                check("a file that is in use isn't compacted", (9, b"", b"swiftd: setup\n--file: in use by another process\n"), ran(SWIFTD, compact))
+            store.signal(signal.SIGKILL)
+            store.ended()
+        before, left = os.path.getsize(file) + os.path.getsize(file + "-wal"), os.listdir(folder)
+        os.chmod(file, 0o640)
+        check("a file is compacted", (0, b"", b""), ran(SWIFTD, compact))
+        check("it is smaller, of the same mode, and nothing is left beside it", (True, 0o640, sorted(left)), (os.path.getsize(file) * 3 < before, os.stat(file).st_mode & 0o777, sorted(os.listdir(folder))))
+        with contextlib.closing(sqlite3.connect(file)) as database:
+            check("SQLite finds it sound", [("ok",)], database.execute("PRAGMA integrity_check").fetchall())
+        with Swiftd(words=words) as store, store.client(*(swift("GET", f"{root}/b/{name}") for name in kept), swift("GET", f"{root}/b?format=json&limit=1000&marker=&prefix="), swift("PUT", f"{root}/b/new", [("Content-Type", "t")], b"abc")) as client:
+            check("and what was kept is there", [(200, bodies[name]) for name in kept], [both(client.reply()) for _ in kept])
+            check("listed, and more is put", (len(kept), 201), (len(json.loads(client.reply().body)), client.reply().status))
 
 
 @group()

@@ -6,9 +6,10 @@
 In each turn, 100 of them unless told otherwise, four clients put, overwrite and delete objects, some of them in parts, and ask nothing
 twice. Then swiftd is killed by signal 9, or s3gate, or both, and started again. Each object that was written in the turn is read back,
 and every tenth time all are, beside the listing: an object is what the last write that was answered left it, or what one left that was
-cut off behind it, whole or not at all. Every tenth time too both files are copied while clients write and swiftd is held by SIGSTOP, as a
-snapshot of a file system has them, and a second swiftd over the copy is asked the same. At the end SQLite reads the file: its own check,
-and of each row whether size and hash are those of its body. Status 0: nothing is lost. Only Python's own libraries are used.
+cut off behind it, whole or not at all. Every tenth time too all files are copied while clients write and swiftd is held by SIGSTOP, as a
+snapshot of a file system has them, and a second swiftd over the copy is asked the same. No start may say anything, and at the end each
+larger body has its file, and no other file is there. At the end SQLite reads the tables: its own check, and of each row whether size and
+hash are those of its body. Status 0: nothing is lost. Only Python's own libraries are used.
 """
 import collections
 import concurrent.futures
@@ -52,7 +53,7 @@ class Served:
     """A program that listens, which can be killed and started again at the same place."""
 
     def __init__(self, words, place, **variables):
-        self.words, self.place, self.variables, self.process, self.waits = words, place, variables, None, []
+        self.words, self.place, self.variables, self.process, self.waits, self.said = words, place, variables, None, [], b""
         self.start()
 
     def start(self):
@@ -69,6 +70,7 @@ class Served:
     def kill(self):
         self.process.kill()
         self.process.wait()
+        self.said += self.process.stderr.read()
         self.process.stderr.close()
 
 
@@ -191,14 +193,15 @@ def gate_before(s3gate, store):
 
 
 def snapshot(store, model, file, to):
-    """Copies both files while no byte of them changes, and gives what each name may hold in the copy."""
+    """Copies all files while no byte of them changes, and gives what each name may hold in the copy."""
     before = model.copy()
     store.process.send_signal(signal.SIGSTOP)
     # The signal is delivered once the system shows the process as stopped.
     while not re.search(r"\) T ", open(f"/proc/{store.process.pid}/stat", encoding="utf-8").read()):
         time.sleep(0.001)
-    for end in ("", "-wal"):
+    for end in ("", "-wal", "-commits"):
         shutil.copyfile(file + end, to + end)
+    shutil.copytree(file + "-bodies", to + "-bodies")
     after = model.copy()
     store.process.send_signal(signal.SIGCONT)
     return {name: before.get(name, {GONE}) | after[name] for name in after}
@@ -250,9 +253,12 @@ def main():
                 copies += 1
                 for it in (second, copied):
                     it.kill()
-                for it in os.listdir(folder):
-                    if it.startswith("copy"):
-                        os.remove(os.path.join(folder, it))
+                if copied.said:
+                    wrong += 1
+                    print(f"turn {turn}, the copy: {copied.said!r}")
+                shutil.rmtree(os.path.join(folder, "copy.db-bodies"))
+                for end in ("", "-wal", "-commits"):
+                    os.remove(os.path.join(folder, "copy.db" + end))
         sizes = [os.path.getsize(file + end) for end in ("", "-wal")]
         for it in (gate, store):
             it.kill()
@@ -262,8 +268,19 @@ def main():
         if check != [("ok",)]:
             wrong += 1
             print(f"SQLite says {check[:3]}")
-        half = sum(1 for kind, size, tag, body in rows if kind == 0 and (size != len(body) or tag != hashlib.md5(body).hexdigest().encode()))
-        wrong += half
+        half, files = 0, set(os.listdir(file + "-bodies"))
+        for kind, size, tag, body in rows:
+            if kind == 2:
+                held = os.path.join(file + "-bodies", body.hex())
+                files.discard(body.hex())
+                body = open(held, "rb").read()[:size] if os.path.exists(held) else b""
+            half += kind != 1 and (size != len(body) or tag != hashlib.md5(body).hexdigest().encode())
+        wrong += half + len(files)
+        if files:
+            print(f"files of which no row tells: {sorted(files)[:5]}")
+        if store.said:
+            wrong += 1
+            print(f"a start said {store.said[:500]!r}")
         waits = sorted(store.waits)
         print(f"{turns} turns, killed {dict(killed)}; {model.count} writes were answered; {len(rows)} rows, {half} of them not whole; {copies} copies")
         print(f"a start of swiftd took {waits[0]:.3f} to {waits[-1]:.3f} s; the file has {sizes[0]} bytes, its log {sizes[1]}; SQLite says {check[0][0]}")
