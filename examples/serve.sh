@@ -1,8 +1,8 @@
 #!/usr/bin/env bash
 # Proves and builds s3gate and swiftd where that is still to be done; starts swiftd, the small store, and s3gate before it, both on
 # the loopback interface, with the example key; makes a bucket, puts an object there, lists it and gets it, by the `aws` command
-# where it is installed and else by curl; and serves on until it is stopped by Ctrl-C or TERM, when it ends both. A line tells each crate
-# that is proved, and how many are left.
+# where it is installed and else by curl; and serves on until it is stopped by Ctrl-C or TERM, when it ends both. While it proves, a line
+# tells each crate that is done, and how long the rest may take (examples/build.py); stopped then, it goes on there the next time.
 #
 #   examples/serve.sh [PORT [FOLDER]]
 #
@@ -15,23 +15,14 @@ port="${1:-8080}"
 folder="$(realpath -m -- "${2:-${HOME:-/tmp}/s3gate-data}")"
 cd "$(dirname "$0")/.."
 jobs=()
-log="$(mktemp)"
 finish() {
     trap '' TERM INT
     for job in "${jobs[@]}"; do kill -- "-$job" 2>/dev/null || true; done
     wait
-    rm -f "$log"
 }
 trap finish EXIT
 trap 'exit 143' TERM
 trap 'exit 130' INT
-# Runs a command in a folder and waits for it, so that a signal is heeded at once.
-run_in() {
-    (cd "$1" && exec "${@:2}") </dev/null &
-    jobs=($!)
-    wait $! || return
-    jobs=()
-}
 is_taken() { (: <"/dev/tcp/127.0.0.1/$1") 2>/dev/null; }
 
 for it in "$port" "$((port + 1))"; do
@@ -41,31 +32,11 @@ for it in "$port" "$((port + 1))"; do
     fi
 done
 
-# The libraries that the two programs stand on, the lowest first, as crates.txt has them.
-mapfile -t crates < <(awk -F: '
-    /^[a-z]/ { split($1, word, " "); names[++count] = word[1]; uses[word[1]] = $2 }
-    function want(name, list, at, parts) {
-        if (!(name in uses) || name in wanted) return
-        wanted[name] = 1
-        list = split(uses[name], parts, " ")
-        for (at = 1; at <= list; at++) want(parts[at])
-    }
-    END {
-        want("swiftd"); want("s3gate")
-        for (at = 1; at <= count; at++) if (names[at] in wanted && names[at] != "swiftd" && names[at] != "s3gate") print names[at]
-    }' crates.txt)
-left=$((${#crates[@]} + 2))
-tell() { left=$((left - 1)); echo "$(date +%T) $1: $left left"; }
-quiet() { run_in "$@" >"$log" 2>&1 || { cat "$log" >&2; echo "serve.sh: $1 isn't proved" >&2; exit 1; }; }
-for it in "${crates[@]}"; do
-    tell "$it"
-    quiet "crates/$it" rt lib
-done
-# Each program is run once, to no effect: swiftd without words, which it refuses with status 2, and s3gate for a client that sends nothing.
-tell swiftd
-run_in crates/swiftd rt run >"$log" 2>&1 || [ -x crates/swiftd/out/swiftd ] || { cat "$log" >&2; exit 1; }
-tell s3gate
-quiet crates/s3gate env -u S3GATE_KEYS rt run -- session
+# It is waited for, so that a signal is heeded at once.
+examples/build.py </dev/null &
+jobs=($!)
+wait $!
+jobs=()
 
 place="http://127.0.0.1:$port"
 store="127.0.0.1:$((port + 1))"
