@@ -52,42 +52,62 @@ changelog() {
         END { close_entry() }' CHANGES.md
 }
 
-# A unit with the limits of the example, from their comment to the empty line behind them.
+# A unit with the limits of the example that has the service's name, from their comment to the empty line behind them.
 unit() {
     local limits
-    limits="$(sed -n '/^# Limits/,/^$/p' examples/s3gate.service)"
-    [ -n "$limits" ] || fail "examples/s3gate.service has no lines of limits"
-    awk -v limits="$limits" '/^@LIMITS@$/ { print limits; print ""; next } { print }' "packaging/$1/$1.service"
+    limits="$(sed -n '/^# Limits/,/^$/p' "examples/$1.service")"
+    [ -n "$limits" ] || fail "examples/$1.service has no lines of limits"
+    awk -v limits="$limits" '/^@LIMITS@$/ { print limits; print ""; next } { print }' "$2"
 }
 
-# make NAME PROGRAM ABOUT SECRETS: a package. SECRETS are those of its files that its group alone may read.
+# Pages for readers, which lie to each other as they do here. A link to what the package doesn't have is left as its words.
+pages() {
+    python3 - "$@" <<'PYTHON'
+import os, re, sys
+root, *names = sys.argv[1:]
+for name in names:
+    def kept(link):
+        place, _, anchor = link[2].partition("#")
+        near = os.path.normpath(os.path.join(os.path.dirname(name), place)) if place else name
+        return link[0] if "://" in link[2] or near in names else link[1]
+    with open(name, encoding="utf-8") as file:
+        text = re.sub(r"\[([^][]*)\]\(([^()]*)\)", kept, file.read())
+    os.makedirs(os.path.dirname(f"{root}/{name}"), exist_ok=True)
+    with open(f"{root}/{name}", "w", encoding="utf-8") as file:
+        file.write(text)
+PYTHON
+}
+
+# make NAME PROGRAM ABOUT OWN MADE: a package. OWN are the operator's files, which its postinst makes, and MADE what else its units read
+# or write there; a purge removes both.
 make() {
-    local name="$1" program="$2" about="$3" secret="$4" root="$room/$1" doc="$room/$1/usr/share/doc/$1" file
-    mkdir -p "$root/DEBIAN" "$root/usr/bin" "$root/etc/default" "$root/usr/lib/systemd/system" "$root/usr/share/man/man1" "$doc"
+    local name="$1" program="$2" about="$3" own="$4" made="$5" root="$room/$1" doc="$room/$1/usr/share/doc/$1" file units=() timers=()
+    mkdir -p "$root/DEBIAN" "$root/usr/bin" "$root/usr/share/$name" "$root/etc/$name" "$root/usr/lib/systemd/system" "$root/usr/share/man/man1" "$doc"
     strip --strip-unneeded -o "$root/usr/bin/$name" "$program" || fail "$program is no program"
-    unit "$name" >"$root/usr/lib/systemd/system/$name.service"
-    cp "packaging/$name/default" "$root/etc/default/$name"
+    for file in "packaging/$name"/*.service "packaging/$name"/*.timer; do
+        [ -e "$file" ] || continue
+        units+=("$(basename "$file")")
+        [[ "$file" != *.timer ]] || timers+=("$(basename "$file")")
+        unit "$name" "$file" >"$root/usr/lib/systemd/system/$(basename "$file")"
+    done
+    cp "packaging/$name/defaults" "packaging/$name/environment" "$root/usr/share/$name/"
     gzip -9n <"packaging/$name/$name.1" >"$root/usr/share/man/man1/$name.1.gz"
     changelog "$name" | gzip -9n >"$doc/changelog.gz"
     cp packaging/copyright "$doc/copyright"
     if [ "$name" = s3gate ]; then
-        mkdir -p "$root/etc/s3gate" "$root/usr/share/lintian/overrides"
-        : >"$root/etc/s3gate/keys"
-        cp packaging/s3gate/lintian "$root/usr/share/lintian/overrides/s3gate"
-        cp README.md "$doc/"
-        for file in OPERATING PROFILE; do gzip -9n <"docs/$file.md" >"$doc/$file.md.gz"; done
-        mkdir "$doc/examples"
-        cp -r examples/{clients,nginx.conf,store-nginx.conf,tenants-nginx.conf,keystone-token.sh,health.sh,registry.yml} "$doc/examples/"
+        pages "$doc" README.md CHANGES.md docs/{OPERATING,PROFILE,PROOFS,OPEN}.md
+        mkdir -p "$doc/examples" "$root/usr/lib/s3gate"
+        cp -r examples/{clients,nginx.conf,store-nginx.conf,tenants-nginx.conf,registry.yml} "$doc/examples/"
+        cp examples/{keystone-token.sh,health.sh} "$root/usr/lib/s3gate/"
     fi
-    (cd "$root" && find etc -type f -printf '/%p\n' | sort) >"$root/DEBIAN/conffiles"
-    for file in postinst prerm postrm; do
-        sed -e "s|@NAME@|$name|g; s|@ABOUT@|$about|g; s|@SECRET@|$secret|g" "packaging/$file" >"$root/DEBIAN/$file"
+    for file in preinst postinst prerm postrm; do
+        sed -e "s|@NAME@|$name|g; s|@ABOUT@|$about|g; s|@OWN@|$own|g; s|@MADE@|$made|g; s|@UNITS@|${units[*]}|g; s|@TIMERS@|${timers[*]}|g" \
+            "packaging/$file" >"$root/DEBIAN/$file"
     done
     find "$root" -type d -exec chmod 755 {} +
     find "$root" -type f -exec chmod 644 {} +
     chmod 755 "$root/usr/bin/$name" "$root"/DEBIAN/p*
-    [ "$name" != s3gate ] || chmod 755 "$doc"/examples/*.sh "$doc"/examples/clients/*.sh
-    for file in $secret; do chmod 640 "$root$file"; done
+    [ "$name" != s3gate ] || chmod 755 "$root"/usr/lib/s3gate/*.sh "$doc"/examples/clients/{*.sh,presigned.py}
     (cd "$root" && find . -path ./DEBIAN -prune -o -type f -printf '%P\0' | sort -z | xargs -0 md5sum) >"$root/DEBIAN/md5sums"
     {
         echo "Package: $name"
@@ -104,5 +124,5 @@ make() {
     SOURCE_DATE_EPOCH="$epoch" dpkg-deb --root-owner-group -Zxz --build "$root" "$out/${name}_${version}_$(dpkg --print-architecture).deb"
 }
 
-make s3gate "$s3gate" "S3 gateway to OpenStack Swift" "/etc/s3gate/keys /etc/default/s3gate"
-make swiftd "$swiftd" "small Swift store" ""
+make s3gate "$s3gate" "S3 gateway to OpenStack Swift" "/etc/s3gate/environment /etc/s3gate/keys" "/etc/s3gate/token.conf /etc/s3gate/keystone"
+make swiftd "$swiftd" "small Swift store" "/etc/swiftd/environment" ""

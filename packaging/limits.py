@@ -21,7 +21,11 @@ NAMESPACES = [0x20000, 0x2000000, 0x4000000, 0x8000000, 0x10000000, 0x20000000, 
 FAMILIES = {"AF_UNIX": 1, "AF_INET": 2, "AF_INET6": 10, "AF_NETLINK": 16}
 C = ctypes.CDLL(None, use_errno=True)
 # Lines that say when and as whom the program runs.
-ELSEWHERE = {"EnvironmentFile", "Environment", "LoadCredential", "ExecStart", "Restart", "RestartSec", "RestartPreventExitStatus", "DynamicUser", "User", "Group"}
+ELSEWHERE = {
+    "Type", "EnvironmentFile", "Environment", "LoadCredential", "ExecCondition", "ExecStartPre", "ExecStart", "ExecStopPost", "TimeoutStartSec",
+    "Restart", "RestartSec", "RestartPreventExitStatus", "DynamicUser", "User", "Group", "StateDirectory", "StateDirectoryMode",
+    "LogRateLimitIntervalSec", "LogRateLimitBurst",
+}
 
 
 def lines_of(unit):
@@ -58,8 +62,9 @@ def hide(lines):
     """The files that the unit leaves: nothing can be written, homes and devices are gone, /tmp is another one."""
     checked(C.unshare(NEW_MOUNTS), "a namespace of mounts")
     mount("--make-rprivate", "/")
-    if lines.pop("ProtectProc", None) and lines.pop("ProcSubset", None):
-        mount("-t", "proc", "-o", "hidepid=invisible,subset=pid", "proc", "/proc")
+    seen = ["hidepid=invisible"] * bool(lines.pop("ProtectProc", None)) + ["subset=pid"] * bool(lines.pop("ProcSubset", None))
+    if seen:
+        mount("-t", "proc", "-o", ",".join(seen), "proc", "/proc")
     if lines.pop("PrivateDevices", None):
         lines.pop("DevicePolicy", None)
         mount("-t", "tmpfs", "-o", "mode=755", "limits", "/mnt")
