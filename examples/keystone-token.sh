@@ -5,11 +5,18 @@
 #       examples/keystone-token.sh /etc/s3gate/token.conf /etc/s3gate/store-nginx.conf
 #
 # or, with a user's password: OS_USERNAME, OS_PASSWORD, OS_USER_DOMAIN_NAME, OS_PROJECT_NAME, OS_PROJECT_DOMAIN_NAME (the names of
-# `openrc`; a domain is Default unless given). Without the second word nothing is reloaded. Run it before nginx first starts, and
-# then by a timer at half of a token's life (`expiration` in keystone.conf, an hour unless set). Where it fails it says why, has
-# status 1, and leaves the old token. Neither a secret nor a token is ever a word of a command.
+# `openrc`; a domain is Default unless given). Without the second word nothing is reloaded, nor where that nginx doesn't run. Run it before
+# nginx first starts, and then by a timer at half of a token's life (`expiration` in keystone.conf, an hour unless set), as the package's
+# s3gate-token.timer does. Where it fails it says why, has status 1, and leaves the old token. Neither a secret nor a token is ever a word
+# of a command.
 set -euo pipefail
 fail() { echo "keystone-token: $*" >&2; exit 1; }
+# Whether the nginx of this file runs, as far as its `pid` tells.
+is_running() {
+    local pid
+    pid="$(sed -n 's/^ *pid  *\([^;]*\);.*/\1/p' "$1")"
+    [ -z "$pid" ] || { [ -s "$pid" ] && kill -0 "$(<"$pid")" 2>/dev/null; }
+}
 [ $# -eq 1 ] || [ $# -eq 2 ] || fail "usage: keystone-token.sh TOKEN.CONF [NGINX.CONF]"
 : "${OS_AUTH_URL:?}"
 # A JSON string of one line of text.
@@ -37,4 +44,4 @@ token="$(tr -d '\r' <<<"$answer" | sed -n 's/^X-Subject-Token: *//Ip')"
 umask 077
 printf 'proxy_set_header X-Auth-Token "%s";\n' "$token" >"$1.new"
 mv "$1.new" "$1"
-[ $# -eq 1 ] || nginx -q -c "$2" -s reload
+[ $# -eq 1 ] || ! is_running "$2" || nginx -q -c "$2" -s reload
