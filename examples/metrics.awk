@@ -11,18 +11,18 @@ BEGIN {
     # The fields of a reply's line, as docs/OPERATING.md has them.
     fields = split("time,connection,method,target,status,request id,bytes,calls,milliseconds,client,key", name, ",")
     for (i = 1; i <= fields; i++) at[name[i]] = i
+    METHOD = at["method"]; TARGET = at["target"]; STATUS = at["status"]; BYTES = at["bytes"]; CALLS = at["calls"]; BUSY = at["milliseconds"]; KEY = at["key"]
     count = split("GET HEAD PUT POST DELETE", name, " ")
     for (i = 1; i <= count; i++) known[name[i]] = 1
 }
 # A reply.
-NF == fields && $2 ~ /^[0-9]+$/ && $at["status"] ~ /^[0-9][0-9][0-9]$/ && $at["target"] ~ /^[\/-]/ {
-    method = $at["method"] in known ? $at["method"] : "other"
-    replies[method " " $at["status"]]++
-    bytes += $at["bytes"]
-    calls += $at["calls"]
-    busy += $at["milliseconds"]
-    if ($at["milliseconds"] > 1000) slow++
-    if ($at["status"] < 400) keys[$at["key"]]++
+NF == fields && $STATUS ~ /^[0-9][0-9][0-9]$/ && $2 ~ /^[0-9]+$/ && $TARGET ~ /^[\/-]/ {
+    replies[$METHOD " " $STATUS]++
+    bytes += $BYTES
+    calls += $CALLS
+    busy += $BUSY
+    if ($BUSY > 1000) slow++
+    if ($STATUS < 400) keys[$KEY]++
     next
 }
 # What was behind a 501 or an InconsistentStore.
@@ -38,7 +38,8 @@ function one(name, kind, help, value) { told(name, kind, help); printf "%s %s\n"
 
 END {
     told("s3gate_replies_total", "counter", "Replies, by method and status.")
-    for (it in replies) { split(it, word, " "); printf "s3gate_replies_total{method=\"%s\",status=\"%s\"} %d\n", word[1], word[2], replies[it] }
+    for (it in replies) { split(it, word, " "); series[(word[1] in known ? word[1] : "other") "\",status=\"" word[2]] += replies[it] }
+    for (it in series) printf "s3gate_replies_total{method=\"%s\"} %d\n", it, series[it]
     told("s3gate_replies_by_key_total", "counter", "Replies below 400, by the id of the key; - of who has none.")
     for (it in keys) printf "s3gate_replies_by_key_total{key=\"%s\"} %d\n", it, keys[it]
     one("s3gate_reply_bytes_total", "counter", "Bytes of all replies, with their heads.", sprintf("%.0f", bytes))
