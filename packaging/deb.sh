@@ -97,7 +97,7 @@ make() {
     if [ "$name" = s3gate ]; then
         pages "$doc" README.md CHANGES.md docs/{OPERATING,PROFILE,PROOFS,OPEN}.md
         mkdir -p "$doc/examples" "$root/usr/lib/s3gate"
-        cp -r examples/{clients,nginx.conf,store-nginx.conf,tenants-nginx.conf,registry.yml,metrics.awk,alarms.yml} "$doc/examples/"
+        cp -r examples/{clients,nginx.conf,store-nginx.conf,tenants-nginx.conf,registry.yml,metrics.awk,alarms.yml,kubernetes.yml} "$doc/examples/"
         cp examples/{keystone-token.sh,health.sh} "$root/usr/lib/s3gate/"
     fi
     for file in preinst postinst prerm postrm; do
