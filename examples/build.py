@@ -27,8 +27,9 @@ LEAST, LINE, PROGRAM = 1_500_000_000, 22_000, 3_500_000_000
 JOB, JOBS = 0.6, 4
 # The machine that bench/gate-cost.md was sampled on was slow and busy: so much of its minutes is expected before anything was measured.
 FASTER, SURE = 0.75, 10
-# After so many seconds without a line it is told what is being proved.
+# After so many seconds without a line it is told what is being proved, and what that waits for.
 SILENT = 120
+WAITS = "waits for another rt"
 KILLED = 128 + signal.SIGKILL
 
 
@@ -61,7 +62,12 @@ def lock(crates):
     held = []
     for crate in sorted(crates, key=lambda it: os.path.realpath(it.folder)):
         held.append(os.open(crate.folder, os.O_RDONLY))
-        fcntl.flock(held[-1], fcntl.LOCK_SH if crate is not crates[-1] and crate.is_built() else fcntl.LOCK_EX)
+        kind = fcntl.LOCK_SH if crate is not crates[-1] and crate.is_built() else fcntl.LOCK_EX
+        try:
+            fcntl.flock(held[-1], kind | fcntl.LOCK_NB)
+        except BlockingIOError:
+            print(f"{WAITS} in crates/{crate.name}", flush=True)
+            fcntl.flock(held[-1], kind)
     return held
 
 
@@ -158,7 +164,7 @@ class Build:
     def tell(self, text):
         left = len(self.uses) - len(self.done)
         so_far = f"{len(self.done)} done, {left} left, {(time.time() - self.begun) / 60:.0f} minutes so far"
-        print(f"{time.strftime('%T')} {text}: {so_far}{f', some {self.to_go():.0f} to go' * bool(left)}", flush=True)
+        print(f"{time.strftime('%T')} {text}: {so_far}{f', some {max(self.to_go(), 1):.0f} to go' * bool(left)}", flush=True)
         self.told = time.time()
 
     def ready(self):
@@ -209,6 +215,12 @@ class Build:
         sys.stdout.write(said)
         return sys.exit(f"build.py: {name} isn't proved: what rt said of it stands above")
 
+    def still(self, name):
+        """What is being proved, and what it waits for, where that is the last thing it said."""
+        out = self.running[name]["out"].fileno()
+        last = os.pread(out, 200, max(os.fstat(out).st_size - 200, 0)).decode(errors="replace").strip().split("\n")[-1]
+        return f"{name} ({last})" if last.startswith(WAITS) else name
+
     def run(self):
         try:
             while len(self.done) < len(self.uses):
@@ -216,7 +228,7 @@ class Build:
                 for name in [name for name, it in self.running.items() if it["run"].poll() is not None]:
                     self.end(name)
                 if time.time() - self.told > SILENT:
-                    self.tell(f"still at {', '.join(self.running)}")
+                    self.tell(f"still at {', '.join(map(self.still, self.running))}")
                 time.sleep(0.1)
         finally:
             for it in self.running.values():
@@ -240,9 +252,7 @@ def main():
     os.chdir(ROOT)
     build = Build(programs)
     build.done = proved_before(build)
-    if build.ready() and set(build.ready()) != set(build.programs):
-        room = f"{build.lanes} processors, {free() / 1e9:.0f} GB of free memory"
-        build.tell(f"{len(build.uses)} crates are wanted; {room}")
+    build.tell(f"{len(build.uses)} crates are wanted; {build.lanes} processors, {free() / 1e9:.0f} GB of free memory")
     try:
         build.run()
     except KeyboardInterrupt:

@@ -7,7 +7,7 @@ set -euo pipefail
 [ $# -eq 1 ] || { echo "usage: run.sh REQUESTS.http" >&2; exit 1; }
 requests="$(realpath "$1")"
 cd "$(dirname "$0")/.."
-(cd crates/s3gate && env -u S3GATE_KEYS rt run -- session </dev/null)
+examples/build.py s3gate >&2
 replies="$(mktemp)"
 trap 'rm -f "$replies"' EXIT
 status=0
