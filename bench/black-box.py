@@ -1043,6 +1043,9 @@ def the_log_of_replies(check):
         for at, line in enumerate(wanted):
             check(f"the log's line of {line.split(' ', 1)[1][:60]!r}", line, lines[at] if at < len(lines) else None)
         check("the log has no other line, and the status is 0", (0, len(wanted)), (status, len(lines)))
+        figures = subprocess.run(["awk", "-f", os.path.join(ROOT, "examples/metrics.awk")], input=report, stdout=subprocess.PIPE, check=True).stdout
+        counted = [sum(map(int, re.findall(rb"^s3gate_" + name + rb"\b.* (\d+)$", figures, re.MULTILINE))) for name in (b"replies_total", b"starts_total")]
+        check("examples/metrics.awk counts each line, and the start", [len(wanted), 1], counted)
         hidden = [TOKEN.encode(), SIGNATURE.encode(), b"TOKEN", b"Credential=KEY", b"the body", b"secret", b"pass@"] + sign.first_key()[1:2]
         check("and no secret, token or body", [], [it for it in hidden if (it if isinstance(it, bytes) else it.encode()) in report])
 
