@@ -155,8 +155,11 @@ class Build:
 
     def to_go(self):
         """How many minutes are left by the clock: by the longest chain, or by the sum."""
-        speed = (self.took + SURE * FASTER) / (self.weighed + SURE)
         spent = {name: (time.time() - it["begun"]) / 60 for name, it in self.running.items()}
+        # What takes longer than it should tells of the speed before it is done.
+        late = [name for name in spent if spent[name] > FASTER * self.minutes[name]]
+        took, weighed = self.took + sum(spent[name] for name in late), self.weighed + sum(self.minutes[name] for name in late)
+        speed = (took + SURE * FASTER) / (weighed + SURE)
         rest = {name: max(speed * self.minutes[name] - spent.get(name, 0), 0.1) for name in self.uses if name not in self.done}
         chains = [speed * (self.chain[name] - self.minutes[name]) + rest[name] for name in rest]
         return max([sum(rest.values()) / self.lanes, *chains])

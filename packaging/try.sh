@@ -121,7 +121,8 @@ inside dpkg --configure -a >/dev/null
 inside dpkg -i /root/newer.deb >"$room/said" 2>&1 || { cat "$room/said"; fail "an upgrade without a terminal stopped"; }
 is "then installed" "$(status)" "$(sed -n 's/^Version: //p' "$room/newer/DEBIAN/control") install ok installed"
 md5sum --quiet -c "$room/edited" || fail "the upgrade changed what was edited"
-is "asked of systemd by an upgrade" "$(grep start "$root/run/asked")" "try-restart s3gate.service"
+# A script whose dpkg was killed may still have been running.
+is "asked of systemd by an upgrade" "$(grep start "$root/run/asked" | sort -u)" "try-restart s3gate.service"
 kill -TERM "$gate"
 wait "$gate" || true
 serve s3gate 18080
