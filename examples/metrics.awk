@@ -2,8 +2,9 @@
 #
 #   journalctl -u s3gate -o cat --since today | awk -v health="$(examples/health.sh)" -f examples/metrics.awk > FILE.new && mv FILE.new FILE
 #
-# with FILE /var/lib/prometheus/node-exporter/s3gate.prom, as Debian's package reads it. The counts are of the day and begin anew at midnight,
-# as counters may. examples/alarms.yml has four alarms over them. `health` is what health.sh says; without it there are no figures of it.
+# with FILE /var/lib/prometheus/node-exporter/s3gate.prom, as Debian's package reads it. The counts are of the day and begin anew at
+# midnight, as counters may. examples/alarms.yml has four alarms over them. `health` is what health.sh says; without it there are no
+# figures of it.
 #
 # What anybody may send names no series: methods beside S3's are one, and a key is counted where the request was answered below 400, so
 # that its signature held.
@@ -11,7 +12,8 @@ BEGIN {
     # The fields of a reply's line, as docs/OPERATING.md has them.
     fields = split("time,connection,method,target,status,request id,bytes,calls,milliseconds,client,key", name, ",")
     for (i = 1; i <= fields; i++) at[name[i]] = i
-    METHOD = at["method"]; TARGET = at["target"]; STATUS = at["status"]; BYTES = at["bytes"]; CALLS = at["calls"]; BUSY = at["milliseconds"]; KEY = at["key"]
+    METHOD = at["method"]; TARGET = at["target"]; STATUS = at["status"]; BYTES = at["bytes"]
+    CALLS = at["calls"]; BUSY = at["milliseconds"]; KEY = at["key"]
     count = split("GET HEAD PUT POST DELETE", name, " ")
     for (i = 1; i <= count; i++) known[name[i]] = 1
 }
