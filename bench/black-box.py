@@ -3433,9 +3433,9 @@ def larger_bodies_stand_in_files(check):
         for it in ("00000000000ffffe.new", "00000000000ffffd.old"):
             shutil.copy(os.path.join(folder, "away"), os.path.join(file + "-bodies", it))
         with Swiftd(words=words, SWIFTD_LOG="on") as store:
-            check("a start removes what a stop left, and sets aside what none leaves", [now[0], "00000000000fffff.lost"], bodies_of(file))
             with store.client(swift("GET", f"{root}/b/e"), swift("GET", f"{root}/b/b")) as client:
                 check("a body that is missing, and the end", [503, None], [client.reply().status, client.reply()])
+            check("a start removes what a stop left, and sets aside what none leaves", [now[0], "00000000000fffff.lost"], bodies_of(file))
             with store.client(swift("GET", f"{root}/b/b"), swift("PUT", f"{root}/b/e", [("Content-Type", "t")], bodies["e"]), swift("GET", f"{root}/b/e")) as client:
                 check("others are served, and it can be put over", [(200, bodies["b"]), 201, (200, bodies["e"])], [both(client.reply()), client.reply().status, both(client.reply())])
             check("its number is above that of what was set aside", True, bodies_of(file)[-1] > "00000000000fffff.lost")
@@ -3501,7 +3501,7 @@ def a_log_that_was_cut_is_refused(check):
 @group()
 def a_file_is_compacted(check):
     root = f"/v1/{ACCOUNT}"
-    bodies = {f"k{at:04}": random.Random(at).randbytes(200 + at) for at in range(1200)}
+    bodies = {f"k{at:04}": random.Random(at).randbytes(200 + at) for at in range(300)}
     with tempfile.TemporaryDirectory() as folder:
         file = os.path.join(folder, "store.db")
         words, compact = ["--file", file], ["--file", file, "--compact"]
@@ -3510,9 +3510,9 @@ def a_file_is_compacted(check):
         kept = [name for at, name in enumerate(bodies) if at % 12 == 0]
         with Swiftd(2, words=words) as store:
             with store.client(swift("PUT", f"{root}/b", NOBODY), *(swift("PUT", f"{root}/b/{name}", [("Content-Type", "t"), ("X-Object-Meta-S3-0", "[a]")], body) for name, body in bodies.items())) as client:
-                check("objects are put", {201}, set(client.replies(1201)))
+                check("objects are put", {201}, set(client.replies(301)))
             with store.client(*(swift("DELETE", f"{root}/b/{name}") for name in bodies if name not in kept)) as client:
-                check("and most of them deleted", {204}, set(client.replies(1100)))
+                check("and most of them deleted", {204}, set(client.replies(275)))
             with store.client() as client:
                 check("a file that is in use isn't compacted", (9, b"", b"swiftd: setup\n--file: in use by another process\n"), ran(SWIFTD, compact))
             store.signal(signal.SIGKILL)
