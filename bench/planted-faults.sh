@@ -100,7 +100,6 @@ FAULTS = [
     ("list_pages finish: truncated where nothing is wanted", "list_pages/src/roll.rt", 1, "        let truncated = 0 < self.max && self.more;", "        let truncated = self.more;", ["listings.txt"]),
     ("object_rows content_of: any other kind is a list", "object_rows/src/row.rt", 1, "    } else if kind == LIST {\n", "    } else if kind >= LIST {\n", OUTSIDE),
     ("object_rows has_hash: a hash of its length is taken", "object_rows/src/row.rt", 1, "    Ok(etag.as_slice() == hash)\n", "    Ok(etag.len() == hash.len())\n", OUTSIDE),
-    ("object_rows row_with_place: the kind of bytes that stand in the row", "object_rows/src/row.rt", 1, "        kind: PLACED,\n", "        kind: PLAIN,\n", OUTSIDE),
     ("planner find_object: a missing bucket is asked for again", "planner/src/reading.rt", 1, "        return Ok(Reading::Whole(Reply::Refused(Code::NoSuchBucket)));\n", "        head_bucket(state, &bucket)?;\n        return Ok(Reading::Whole(Reply::Refused(Code::NoSuchBucket)));\n", ["objects.txt"]),
     ("planner read_piece: one byte more is asked for", "planner/src/reading.rt", 1, "        Some((first, first + (size - 1))),\n", "        Some((first, first + size)),\n", ["ranges.txt"]),
     ("many_keys delete_key: a call that failed is passed over", "many_keys/src/deletions.rt", 1, "    delete_object(state, container, name)\n", "    delete_object(state, container, name).or(Ok(()))\n", ["many_keys.txt"]),

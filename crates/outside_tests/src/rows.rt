@@ -1,7 +1,7 @@
 //! Rows as SQLite's tables have them, by hand; the hashes are those of Python's `hashlib`.
 
 use gate_base::{Bytes, Memory};
-use object_rows::{Row, RowFault, from_row, row_with_place, to_row};
+use object_rows::{Row, RowFault, from_row, to_row};
 use std::alloc::Global;
 use swift_calls::Content;
 
@@ -161,25 +161,4 @@ fn a_row_of_a_list_is_read_where_its_text_is_the_list(rt: HostRuntime) {
         is_read(&rt, 1, b"", 0, b"d41d8cd98f00b204e9800998ecf8427e", b"[]"),
         unread
     );
-}
-
-/// Whether the row of an object that was read, with its bytes at a place, has these columns, and is itself no object's.
-fn is_placed(rt: &HostRuntime) -> Result<bool, RowFault> {
-    let row = row(rt.alloc(), 0, b"3.a:1", 5, HELLO, b"hello")?;
-    let object = from_row(rt.alloc(), b"k", &row)?;
-    let etag = Bytes::from_slice(rt.alloc(), HELLO)?;
-    let place = Bytes::from_slice(rt.alloc(), &[0, 0, 0, 0, 0, 0, 1, 2])?;
-    let placed = row_with_place(rt.alloc(), &object, etag, place)?;
-    let is_told = placed.kind == 2
-        && placed.meta.as_slice() == b"3.a:1".as_slice()
-        && placed.size == 5
-        && placed.hash.as_slice() == HELLO
-        && placed.body.as_slice() == [0, 0, 0, 0, 0, 0, 1, 2].as_slice();
-    let again = from_row(rt.alloc(), b"k", &placed);
-    Ok(is_told && matches!(again, Err(RowFault::Unread)))
-}
-
-#[test]
-fn an_object_at_a_place_has_a_row(rt: HostRuntime) {
-    assert_eq!(rt; is_placed(&rt), Ok(true));
 }
