@@ -3376,10 +3376,9 @@ def a_file_on_a_full_disk(check):
                 subprocess.run(["mount", "-o", "remount,size=40m", folder], check=True)
                 check("and more of the disk does", [201, True], [put(store, done), are_whole(store)])
             full = os.path.join(folder, "full")
-            with open(full, "wb") as file, contextlib.suppress(OSError):
+            with contextlib.suppress(OSError), open(full, "wb", buffering=0) as file:
                 while True:
                     file.write(bytes(1 << 16))
-                    file.flush()
             again = ran(SWIFTD, ["--token", "t", "--account", "a", "--connections", "1", "--file", os.path.join(folder, "other.db")], SWIFTD_LISTEN=NOWHERE)
             check("and a new file finds none", (9, b"", b"swiftd: setup\n--file: no room on the disk\n"), again)
         finally:
@@ -3508,7 +3507,7 @@ def a_file_is_compacted(check):
         check("a file that isn't there isn't compacted", (9, b"", b"swiftd: setup\n--file: cannot be opened and written\n"), ran(SWIFTD, compact))
         check("and not made", [], os.listdir(folder))
         kept = [name for at, name in enumerate(bodies) if at % 12 == 0]
-        with Swiftd(2, words=words) as store:
+        with Swiftd(3, words=words) as store:
             with store.client(swift("PUT", f"{root}/b", NOBODY), *(swift("PUT", f"{root}/b/{name}", [("Content-Type", "t"), ("X-Object-Meta-S3-0", "[a]")], body) for name, body in bodies.items())) as client:
                 check("objects are put", {201}, set(client.replies(301)))
             with store.client(*(swift("DELETE", f"{root}/b/{name}") for name in bodies if name not in kept)) as client:
