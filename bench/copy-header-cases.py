@@ -196,18 +196,28 @@ class Asked:
             raise Refused("InvalidRequest")
         if replaced and (len(replaced[1]) > 64 or size_of(replaced[1]) > 2048):
             raise Refused("MetadataTooLarge")
-        source = f"from_bucket: {shown(from_bucket)}, from_key: {shown(from_key)}"
+        source = f"from_{place_of(from_bucket, ', from_', from_key)}"
         if is_part:
-            of_range = f"range: {f'Some({span})' if span else None}, conditions: {conditions_of(fields)}"
-            return f'CopyPart {{ bucket: "photos", key: "k", id: "0a", number: 7, {source}, {of_range} }}'
-        told = f"Some(Replaced {{ {taken(*replaced)} }})" if replaced else "None"
-        return f'CopyObject {{ bucket: "photos", key: "k", acl: {acl_of(fields)}, {source}, replaced: {told}, conditions: {conditions_of(fields)} }}'
+            of_range = f"range: {f'Some(CopyRange {{ first: {span[0]}, last: {span[1]} }})' if span else None}, conditions: {conditions_of(fields)}"
+            return f"OnCopies(CopyPart(PartCopy {{ {PLACE}, {PART_OF}, {source}, {of_range} }}))"
+        told = f"Some(Described {{ {taken(*replaced)} }})" if replaced else "None"
+        copy = f"{PLACE}, acl: {acl_of(fields)}, {source}, replaced: {told}, conditions: {conditions_of(fields)}, only_if: Always"
+        return f"OnCopies(CopyObject(ObjectCopy {{ {copy} }}))"
 
     def put(self, fields, is_part):
         body = shown(self.body.encode())
         if is_part:
-            return f'UploadPart {{ bucket: "photos", key: "k", id: "0a", number: 7, body: {body} }}'
-        return f'PutObject {{ bucket: "photos", key: "k", acl: {acl_of(fields)}, {taken(*replaced_of(fields))}, body: {body} }}'
+            return f"OnUploads(UploadPart(PartPut {{ {PLACE}, {PART_OF}, body: {body} }}))"
+        content = f"Content {{ {taken(*replaced_of(fields))}, body: {body} }}"
+        return f"OnObjects(PutObject(ObjectPut {{ {PLACE}, acl: {acl_of(fields)}, content: {content}, only_if: Always }}))"
+
+
+def place_of(bucket, between, key):
+    return f"bucket: BucketName {{ name: {shown(bucket)} }}{between}key: Key {{ name: {shown(key)} }}"
+
+
+PLACE = 'bucket: BucketName { name: "photos" }, key: Key { name: "k" }'
+PART_OF = 'id: "0a", number: PartNumber { number: 7 }'
 
 
 def acl_of(fields):

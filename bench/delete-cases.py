@@ -183,7 +183,8 @@ def told(body):
         keys = [key_of(text) for text in texts]
     except NoKey:
         return f"NotTheBody({length})"
-    return f"Deletes {{ keys: [{', '.join(map(shown, keys))}], quiet: {str(b'<Quiet>true</Quiet>' in body).lower()} }}"
+    named = ", ".join(f"Key {{ name: {shown(key)} }}" for key in keys)
+    return f"Deletes {{ keys: [{named}], quiet: {str(b'<Quiet>true</Quiet>' in body).lower()} }}"
 
 
 # ---- the cases

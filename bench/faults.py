@@ -4,10 +4,11 @@
     bench/faults.py           prints the operations and their cases
     bench/faults.py --check   prints what is lacking; the status is 1 where anything is
 
-The operations are the variants of `Op` in crates/s3_machine, so a later one is missed here by itself. A case of crates/cases/data with
-the line `sweep` loses each call of its request in each way; it counts for the operation that its first request is, where that is
-answered with success. Where a request has more than one effect, one case for each loss stands in place of a sweep: so it is with a
-deletion of several keys, and with the command `recover`. docs/TESTING.md has the notation.
+The operations are the variants of `Op` in crates/s3_machine, or of the enum that such a variant holds, so a later one is missed here
+by itself. A case of crates/cases/data with the line `sweep` loses each call of its request in each way; it counts for the operation
+that its first request is, where that is answered with success. Where a request has more than one effect, one case for each loss
+stands in place of a sweep: so it is with a deletion of several keys, and with the command `recover`. docs/TESTING.md has the
+notation.
 """
 import os
 import re
@@ -152,8 +153,12 @@ def lost_one_by_one(cases):
 
 def operations():
     with open(f"{CRATES}/s3_machine/src/operation.rt", encoding="utf-8") as source:
-        body = re.search(r"pub enum Op \{\n(.*?)\n\}", source.read(), re.DOTALL)
-    return re.findall(r"^    ([A-Z]\w+)", body[1], re.MULTILINE)
+        bodies = dict(re.findall(r"pub enum (\w*Op) \{\n(.*?)\n\}", source.read(), re.DOTALL))
+    named = re.findall(r"^    ([A-Z]\w+)\((\w+)\)", bodies["Op"], re.MULTILINE)
+    names = []
+    for variant, held in named:
+        names += re.findall(r"^    ([A-Z]\w+)", bodies[held], re.MULTILINE) if held in bodies else [variant]
+    return names
 
 
 def main(words):

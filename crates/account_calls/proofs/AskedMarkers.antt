@@ -2,7 +2,7 @@
 use Rattle.std.proofs.Common.{◌≡◌, ℕ, ◌==◌, true, false, if◌then◌else◌, List, [], Option, None, Some, IfSome, refl, sym, subst}
 use Rattle.std.specs.Option.{unwrap_or}
 use Rattle.s3_machine.specs.Limits.{is_listing_text}
-use Rattle.s3_machine.specs.Step.{IsProperAsked}
+use Rattle.s3_machine.specs.Proper.{IsProperAsked}
 use Rattle.s3_machine.specs.declared.items.Asked.{Asked}
 use Rattle.swift_calls.specs.Limits.{IsMarker}
 use Rattle.list_pages.specs.Jumps.{next_marker}

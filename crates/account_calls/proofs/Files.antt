@@ -16,7 +16,8 @@ use Rattle.s3_names.specs.Meta.{names_ascend}
 use Rattle.s3_names.specs.declared.acl.Acl.{Acl}
 use Rattle.s3_machine.specs.declared.operation.ObjectHead.{ObjectHead}
 use Rattle.s3_machine.specs.ETag.{body_etag}
-use Rattle.s3_machine.specs.Step.{IsProperContent, head_of}
+use Rattle.s3_machine.specs.Proper.{IsProperContent}
+use Rattle.s3_machine.specs.Step.{head_of}
 use Rattle.swift_calls.specs.Account.{SwiftObject, SwiftContainer, SwiftAccount, files, find_object, size_of}
 use Rattle.swift_calls.specs.Bodies.{bytes_of, etag_text, ranged}
 use Rattle.swift_calls.specs.Bodies as bodies

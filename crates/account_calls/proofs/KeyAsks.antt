@@ -11,7 +11,7 @@ use Rattle.swift_calls.specs.History.{History, Calls}
 use Rattle.swift_calls.specs.Step.{page, is_listed, items_reply}
 use Rattle.swift_calls.specs.declared.calls.SwiftFault.TheVariants as swift
 use Rattle.swift_calls.specs.declared.calls.SwiftReply.{SwiftReply}
-use Rattle.swift_calls.specs.declared.calls.SwiftReply.TheVariants.{Made, There, Gone, Stored, NotFound, NotEmpty, BadManifest, Unsatisfiable, Containers, Readers, Names, Head, Bytes, Manifest}
+use Rattle.swift_calls.specs.declared.calls.SwiftReply.TheVariants.{Made, There, Gone, Stored, NotFound, Exists, NotEmpty, BadManifest, Unsatisfiable, Containers, Readers, Names, Head, Bytes, Manifest}
 use Rattle.swift_calls.specs.declared.heads.NameItem.{NameItem}
 use Rattle.upload_records.specs.Native.{IsSettled}
 use Rattle.upload_records.specs.Consistent.{IsConsistent}
@@ -48,6 +48,7 @@ told_due prefix marker Made told comes = absurd comes
 told_due prefix marker There told comes = absurd comes
 told_due prefix marker Gone told comes = absurd comes
 told_due prefix marker (Stored etag) told comes = absurd comes
+told_due prefix marker Exists told comes = absurd comes
 told_due prefix marker NotEmpty told comes = absurd comes
 told_due prefix marker BadManifest told comes = absurd comes
 told_due prefix marker Unsatisfiable told comes = absurd comes

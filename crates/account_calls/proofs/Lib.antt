@@ -1,3 +1,4 @@
+pub mod Acknowledged
 pub mod AskedMarkers
 pub mod Calm
 pub mod Created

@@ -1,7 +1,9 @@
 pub mod Agree
+pub mod Alike
 pub mod Ascending
 pub mod Ask
 pub mod Causes
+pub mod Conditions
 pub mod Counted
 pub mod Ends
 pub mod Etags

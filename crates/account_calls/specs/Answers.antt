@@ -1,5 +1,7 @@
 -- What the calls of one operation may amount to. It stands between two numbers of calls, over an account that is
 -- consistent at the first. Source: this profile.
+use Rattle.s3_machine.specs.declared.operation.Reply.TheVariants.{OfUploads}
+use Rattle.s3_machine.specs.declared.operation.UploadsReply.TheVariants as uploads_reply
 use Rattle.std.specs.Prelude.{◌≡◌, ◌<◌, ◌≤◌, ◌⊎◌, ℕ, suc, ◌+◌, ◌*◌, ◌/◌, ◌%◌, ◌^◌, min, nat_lt, Bool, true, false, cond, List, [], ◌∷◌, ◌++◌, length, map, take, is_some, Option, None, Some}
 use Rattle.std.specs.FinMap.{entries, get, len}
 use Rattle.std.specs.List.{filter}
@@ -12,7 +14,9 @@ use Rattle.s3_machine.specs.declared.operation.Settings.{Settings}
 use Rattle.s3_machine.specs.Uploads.{kept_as}
 use Rattle.s3_machine.specs.declared.operation.Listed.{Listed}
 use Rattle.s3_machine.specs.declared.operation.Op.{Op}
-use Rattle.s3_machine.specs.declared.operation.Op.TheVariants.{
+use Rattle.s3_machine.specs.declared.operation.Op.TheVariants.{GetObject, OnObjects, OnUploads, OnCopies}
+use Rattle.s3_machine.specs.declared.operation.ObjectsOp.{ObjectsOp}
+use Rattle.s3_machine.specs.declared.operation.ObjectsOp.TheVariants.{
   ListBuckets,
   CreateBucket,
   DeleteBucket,
@@ -22,23 +26,23 @@ use Rattle.s3_machine.specs.declared.operation.Op.TheVariants.{
   PutBucketAcl,
   ListObjects,
   PutObject,
-  GetObject,
   HeadObject,
   DeleteObject,
-  GetObjectAcl,
-  ListUploads,
-  CreateUpload,
-  UploadPart,
-  ListParts,
-  CompleteUpload,
-  AbortUpload,
   DeleteObjects,
-  CopyObject,
-  CopyPart,
+  GetObjectAcl,
 }
+use Rattle.s3_machine.specs.declared.operation.UploadsOp.{UploadsOp}
+use Rattle.s3_machine.specs.declared.operation.UploadsOp.TheVariants.{ListUploads, CreateUpload, UploadPart, ListParts, CompleteUpload, AbortUpload}
+use Rattle.s3_machine.specs.declared.operation.CopiesOp.{CopiesOp}
+use Rattle.s3_machine.specs.declared.operation.CopiesOp.TheVariants.{CopyObject, CopyPart}
+use Rattle.s3_machine.specs.Ops as ops
 use Rattle.s3_machine.specs.declared.operation.Reply.{Reply}
-use Rattle.s3_machine.specs.declared.operation.Reply.TheVariants.{Refused, Memory, Gone, Completed}
+use Rattle.s3_machine.specs.declared.operation.Reply.TheVariants.{Refused, Memory, Gone, Stored}
+use Rattle.s3_machine.specs.declared.only_if.OnlyIf.{OnlyIf}
+use Rattle.s3_machine.specs.declared.only_if.OnlyIf.TheVariants.{Always, Missing}
+use Rattle.s3_machine.specs.OnlyIf.{is_always}
 use Rattle.s3_machine.specs.Items.{begins}
+use Rattle.s3_machine.specs.Laws.{Claim}
 use Rattle.s3_machine.specs.State.{Object, Bucket, Completion, Upload, State}
 use Rattle.s3_machine.specs.Step.{S3Step, head_of, listing}
 use Rattle.s3_machine.specs.declared.items.Asked.{Asked}
@@ -55,11 +59,9 @@ use Rattle.s3_names.specs.Id.{id_digits}
 use Rattle.upload_records.specs.Layout.{uploads_name, segments_name}
 use Rattle.upload_records.specs.Native.{object_at, s3_state, seal_of, sub_manifests, sub_manifests_of}
 use Rattle.upload_records.specs.Consistent.{IsConsistent}
-use Rattle.account_calls.specs.declared.plans.PlansOf.{PlansOf}
-use Rattle.account_calls.specs.declared.plans.PlansOf.TheVariants.{One, Uploads, Many}
 use Rattle.account_calls.specs.Calls.{Bound, always, by_account}
 use Rattle.account_calls.specs.Keys.{objects_in}
-use Rattle.account_calls.specs.Shows.{Shows, alone, in_upload_with_source, with_source}
+use Rattle.account_calls.specs.Shows.{Shows, alone, in_upload, in_upload_with_source, with_source}
 use Rattle.account_calls.specs.Stutters.{OldBefore, calm, LastFailed}
 
 -- ---- how many calls it makes
@@ -122,6 +124,10 @@ kept_in (Some b) id = get b.kept id
 abbrev pub completion_calls : ℕ → State → List ℕ → List ℕ → List ℕ → List Listed → ℕ
 completion_calls n state bucket key id list = cond (is_some (kept_as key list (kept_in (get state bucket) id))) 2 n
 
+-- the calls by which a write asks what stands under its key: one, where it has a condition
+abbrev pub condition_calls : OnlyIf → ℕ
+condition_calls only_if = cond (is_always only_if) 0 1
+
 -- how many pieces so many bytes are sent in: each has 1 MiB, but for the last
 abbrev pub pieces : ℕ → ℕ
 pieces bytes = (bytes + 1048575) / 1048576
@@ -143,7 +149,7 @@ is_of_store code = false
 
 -- whether a completion may be sealed after it was answered so: where it was done, or where it broke off
 abbrev pub may_be_sealed : Reply → Bool
-may_be_sealed (Completed bucket key etag) = true
+may_be_sealed (OfUploads (uploads_reply.Completed completed)) = true
 may_be_sealed Memory = true
 may_be_sealed (Refused code) = is_of_store code
 may_be_sealed reply = false
@@ -163,7 +169,6 @@ pub data Beside : Type 0 where
 
 -- what is said of an operation, beside its step
 pub record Facts : Type 0 where
-  pub plans : PlansOf
   -- the operations on one object each that it counts as, in order: none, where it counts as one step
   pub parts : List Op
   -- whether the state is the old one at each number up to the call that failed
@@ -182,10 +187,9 @@ pub record Facts : Type 0 where
   pub unsure : Reply → Bool
 
 -- one step, which ends by its commit and leaves nothing beside it, with so many calls
-abbrev pub one_step : PlansOf → (SwiftAccount → Bound) → Facts
-one_step plans calls =
+abbrev pub one_step : (SwiftAccount → Bound) → Facts
+one_step calls =
     record {
-      plans = plans;
       parts = [];
       old_if_failed = true;
       old_if_out_of_memory = true;
@@ -198,11 +202,11 @@ one_step plans calls =
 
 -- the same, where the number of calls doesn't go by the account
 abbrev pub of_calls : ℕ → Facts
-of_calls n = one_step One (λ tree. always n)
+of_calls n = one_step (λ tree. always n)
 
 -- a completion that was done is followed by other calls
 abbrev pub is_incomplete : Reply → Bool
-is_incomplete (Completed bucket key etag) = false
+is_incomplete (OfUploads (uploads_reply.Completed completed)) = false
 is_incomplete reply = true
 
 -- an abort that was done is followed by other calls
@@ -210,62 +214,61 @@ abbrev pub is_unaborted : Reply → Bool
 is_unaborted Gone = false
 is_unaborted reply = true
 
-abbrev pub facts_of : Op → Facts
-facts_of ListBuckets = one_step One (λ tree. by_account (pages (len tree) + len (s3_state tree)))
-facts_of (CreateBucket bucket acl) = one_step One
-    (λ tree. by_account (4 + (pages (records_of tree bucket) + records_of tree bucket) + (pages (segments_of tree bucket) + segments_of tree bucket)))
-facts_of (DeleteBucket bucket) = of_calls 1
-facts_of (HeadBucket bucket) = of_calls 1
-facts_of (GetLocation bucket) = of_calls 1
-facts_of (GetBucketAcl bucket) = of_calls 1
-facts_of (PutBucketAcl bucket acl) = of_calls 1
-facts_of (ListObjects bucket asked) = one_step One (λ tree. by_account (1 + pages_listed bucket asked tree))
-facts_of (PutObject bucket key acl content_type meta body) = of_calls 2
-facts_of (GetObject bucket key range conditions) = one_step One
-    (λ tree. by_account (2 + pieces (read_length (object_at (get (s3_state tree) bucket) key) range conditions)))
-facts_of (HeadObject bucket key range conditions) = of_calls 2
-facts_of (DeleteObject bucket key) = of_calls 2
-facts_of (GetObjectAcl bucket key) = of_calls 2
-facts_of (ListUploads bucket prefix key_marker id_marker max url) = one_step Uploads
-    (λ tree. by_account (1 + pages (records_of tree bucket) + records_of tree bucket))
--- an upload that it opens in the bucket has the first free id
-facts_of (CreateUpload bucket key acl content_type meta) =
-    record (one_step Uploads (λ tree. by_account (2 + 2 * (records_of tree bucket + segments_of tree bucket + 1)))) { beside = opens_in bucket }
-facts_of (UploadPart bucket key id number body) = one_step Uploads (λ tree. always 3)
-facts_of (ListParts bucket key id marker max) = one_step Uploads (λ tree. by_account (2 + pages (named_by tree bucket id)))
--- its commit is followed by the calls that roll it forward, before which it is sealed
-facts_of (CompleteUpload bucket key id list) =
-    record (one_step Uploads
-    (λ tree. by_account (completion_calls (6 + pages (named_by tree bucket id) + sub_manifests (length list)) (s3_state tree) bucket key id list)))
-    { by_commit = is_incomplete; unsure = may_be_sealed }
--- its commit is followed by the deletions of its parts
-facts_of (AbortUpload bucket key id) =
-    record (one_step Uploads (λ tree. by_account (3 + pages (named_by tree bucket id) + named_by tree bucket id)))
-    { old_if_out_of_memory = false; beside = clears bucket id; by_commit = is_unaborted }
+-- the deletion of one key among many
+abbrev pub deletion : List ℕ → List ℕ → Op
+deletion bucket key = ops.DeleteObject bucket key Always
+
+-- the operations on buckets and objects
+abbrev pub objects_facts : ObjectsOp → Facts
+objects_facts ListBuckets = one_step (λ tree. by_account (pages (len tree) + len (s3_state tree)))
+objects_facts (CreateBucket made) = one_step
+    (λ tree. by_account (4 + (pages (records_of tree made.bucket) + records_of tree made.bucket) + (pages (segments_of tree made.bucket) + segments_of tree made.bucket)))
+objects_facts (DeleteBucket bucket) = of_calls 1
+objects_facts (HeadBucket bucket) = of_calls 1
+objects_facts (GetLocation bucket) = of_calls 1
+objects_facts (GetBucketAcl bucket) = of_calls 1
+objects_facts (PutBucketAcl set) = of_calls 1
+objects_facts (ListObjects list) = one_step (λ tree. by_account (1 + pages_listed list.bucket list.asked tree))
+objects_facts (PutObject put) = of_calls (2 + condition_calls put.only_if)
+objects_facts (HeadObject read) = of_calls 2
+objects_facts (DeleteObject name) = of_calls (2 + condition_calls name.only_if)
 -- some keys may be deleted where it ends early
-facts_of (DeleteObjects bucket keys quiet) =
-    record (one_step Many (λ tree. always (1 + length keys)))
-    { parts = map (DeleteObject bucket) keys; old_if_failed = false; old_if_out_of_memory = false }
-facts_of (CopyObject bucket key acl from_bucket from_key replaced conditions) =
-    record (one_step Many (λ tree. by_account (copy_calls 5 tree bucket from_bucket from_key))) { shows = with_source }
-facts_of (CopyPart bucket key id number from_bucket from_key range conditions) =
-    record (one_step Many (λ tree. always 6)) { shows = in_upload_with_source }
+objects_facts (DeleteObjects many) =
+    record (one_step (λ tree. always (1 + length many.keys)))
+    { parts = map (deletion many.bucket) many.keys; old_if_failed = false; old_if_out_of_memory = false }
+objects_facts (GetObjectAcl name) = of_calls 2
 
-abbrev pub plans_uploads : PlansOf → Bool
-plans_uploads Uploads = true
-plans_uploads plans = false
+-- the operations on uploads in parts
+abbrev pub uploads_facts : UploadsOp → Facts
+uploads_facts (ListUploads list) = one_step (λ tree. by_account (1 + pages (records_of tree list.bucket) + records_of tree list.bucket))
+-- an upload that it opens in the bucket has the first free id
+uploads_facts (CreateUpload start) =
+    record (one_step (λ tree. by_account (2 + 2 * (records_of tree start.bucket + segments_of tree start.bucket + 1)))) { beside = opens_in start.bucket }
+uploads_facts (UploadPart part) = one_step (λ tree. always 3)
+uploads_facts (ListParts list) = one_step (λ tree. by_account (2 + pages (named_by tree list.bucket list.id)))
+-- its commit is followed by the calls that roll it forward, before which it is sealed
+uploads_facts (CompleteUpload done) =
+    record (one_step
+    (λ tree. by_account
+    (completion_calls (6 + condition_calls done.only_if + pages (named_by tree done.bucket done.id) + sub_manifests (length done.list)) (s3_state tree) done.bucket done.key done.id done.list)))
+    { shows = in_upload; by_commit = is_incomplete; unsure = may_be_sealed }
+-- its commit is followed by the deletions of its parts
+uploads_facts (AbortUpload upload) =
+    record (one_step (λ tree. by_account (3 + pages (named_by tree upload.bucket upload.id) + named_by tree upload.bucket upload.id)))
+    { old_if_out_of_memory = false; beside = clears upload.bucket upload.id; by_commit = is_unaborted }
 
-abbrev pub plans_many : PlansOf → Bool
-plans_many Many = true
-plans_many plans = false
+-- the copies
+abbrev pub copies_facts : CopiesOp → Facts
+copies_facts (CopyObject copy) =
+    record (one_step (λ tree. by_account (copy_calls (5 + condition_calls copy.only_if) tree copy.bucket copy.from_bucket copy.from_key))) { shows = with_source (condition_calls copy.only_if) }
+copies_facts (CopyPart copy) = record (one_step (λ tree. always 6)) { shows = in_upload_with_source }
 
--- the operation is one on uploads in parts
-abbrev pub is_upload : Op → Bool
-is_upload op = plans_uploads (facts_of op).plans
-
--- the operation is one on several keys
-abbrev pub is_many : Op → Bool
-is_many op = plans_many (facts_of op).plans
+abbrev pub facts_of : Op → Facts
+facts_of (GetObject read) = one_step
+    (λ tree. by_account (2 + pieces (read_length (object_at (get (s3_state tree) read.bucket) read.key) read.range read.conditions)))
+facts_of (OnObjects op) = objects_facts op
+facts_of (OnUploads op) = uploads_facts op
+facts_of (OnCopies op) = copies_facts op
 
 abbrev pub parts_of : Op → List Op
 parts_of op = (facts_of op).parts
@@ -391,3 +394,11 @@ abbrev pub NeverUnavailable : Type 0
 NeverUnavailable = (settings : Settings) (h : History) (p q : ℕ) (op : Op) (label : Label) (takes : ℕ) (reply : Reply)
     → p ≤ q → q < budget → AnswersBy settings (calm h) p q op label takes reply
     → S3Step settings (s3_state (h.account_at p)) op label reply (s3_state (h.account_at q)) ⊎ (reply ≡ Memory)
+
+-- of two puts that ask that nothing stands under their key, the second of which begins on the state that the first left, at most one is
+-- acknowledged, whatever failed. Each reply may have been lost: then it isn't acknowledged
+abbrev pub OneAcknowledged : Type 0
+OneAcknowledged = (settings : Settings) (h : History) (p t q r u s takes took : ℕ) (bucket key : List ℕ) (one other : Claim) (first second : List ℕ)
+    → Answers settings h p t q (ops.PutObject bucket key None one.content_type one.meta one.body Missing) one.label takes (Stored first)
+    → s3_state (h.account_at r) ≡ s3_state (h.account_at q)
+    → Answers settings h r u s (ops.PutObject bucket key None other.content_type other.meta other.body Missing) other.label took (Stored second) → ⊥

@@ -9,7 +9,7 @@ use Rattle.s3_machine.specs.ETag.{body_etag}
 use Rattle.s3_machine.specs.Limits.{most_body_bytes}
 use Rattle.slo_manifest.specs.declared.Segment.{Segment}
 use Rattle.swift_calls.specs.declared.calls.SwiftRequest.{SwiftRequest}
-use Rattle.swift_calls.specs.declared.calls.SwiftRequest.TheVariants.{PutObject}
+use Rattle.swift_calls.specs.Files.{PutObject}
 use Rattle.swift_calls.specs.declared.calls.SwiftReply.{SwiftReply}
 use Rattle.swift_calls.specs.declared.calls.SwiftReply.TheVariants.{Made, Gone, Stored, NotFound, NotEmpty, Readers, Head, Bytes, Manifest, Unsatisfiable}
 use Rattle.swift_calls.specs.declared.heads.StoredHead.{StoredHead}

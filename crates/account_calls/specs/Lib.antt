@@ -1,5 +1,6 @@
 pub mod Answers
 pub mod Calls
+pub mod Condition
 pub mod Fault
 pub mod FilePages
 pub mod Interpret

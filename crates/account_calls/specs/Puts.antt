@@ -7,7 +7,8 @@ use Rattle.s3_machine.specs.declared.operation.Reply.TheVariants.{Refused, Memor
 use Rattle.swift_calls.specs.Account.{SwiftAccount, find_object}
 use Rattle.swift_calls.specs.Bodies.{etag_of}
 use Rattle.swift_calls.specs.History.{History, present}
-use Rattle.swift_calls.specs.declared.account.Content.TheVariants.{Plain, Segments}
+use Rattle.swift_calls.specs.Step.{plain_file}
+use Rattle.swift_calls.specs.declared.account.Content.TheVariants.{Segments}
 use Rattle.swift_calls.specs.declared.calls.SwiftRequest.{SwiftRequest}
 use Rattle.swift_calls.specs.declared.calls.SwiftRequest.TheVariants.{PutManifest, PutObject}
 use Rattle.account_calls.specs.declared.fault.PlanFault.{PlanFault}
@@ -16,8 +17,7 @@ use Rattle.account_calls.specs.declared.fault.PlanFault.{PlanFault}
 
 -- the file that a request puts stands in the account as it was put; a request other than these puts none
 abbrev pub StandsIn : SwiftAccount → SwiftRequest → Type 0
-StandsIn tree (PutObject container name content_type meta body) =
-    find_object tree container name ≡ Some (record { content_type = content_type; meta = meta; content = Plain body })
+StandsIn tree (PutObject put) = find_object tree put.container put.name ≡ Some (plain_file put)
 StandsIn tree (PutManifest container name content_type meta segments) =
     find_object tree container name ≡ Some (record { content_type = content_type; meta = meta; content = Segments segments })
 StandsIn tree _ = Unit {0}
@@ -44,6 +44,6 @@ pub record EnsuresIfDone (h : History) (P : SwiftAccount → Type 0) (end : Resu
 
 -- the ETag that a store has of the file that a request puts; of a request that puts none that of no byte
 abbrev pub etag_put : SwiftRequest → List ℕ
-etag_put (PutObject container name content_type meta body) = body_etag body
+etag_put (PutObject put) = body_etag put.body
 etag_put (PutManifest container name content_type meta segments) = etag_of (Segments segments)
 etag_put _ = body_etag []

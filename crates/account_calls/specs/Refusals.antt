@@ -28,7 +28,7 @@ abbrev pub shows : Op → Shows
 shows op = (facts_of op).shows
 
 -- by how many calls the reason of a refusal is known; none is told where it takes the names of files that are listed, as which parts
--- an upload has, or where it is of the store below
+-- an upload has and the condition of its completion, or where it is of the store below
 abbrev pub code_shown_by : Shows → Code → Option ℕ
 code_shown_by s NoSuchBucket = Some s.buckets
 code_shown_by s BucketAlreadyOwnedByYou = Some 1
@@ -37,8 +37,8 @@ code_shown_by s AccessDenied = Some 1
 code_shown_by s NotImplemented = Some 1
 code_shown_by s NoSuchUpload = Some 2
 code_shown_by s InvalidPartOrder = Some 2
-code_shown_by s NoSuchKey = Some s.object
-code_shown_by s PreconditionFailed = Some s.object
+code_shown_by s NoSuchKey = s.met
+code_shown_by s PreconditionFailed = s.met
 code_shown_by s InvalidRange = Some s.object
 code_shown_by s InvalidRequest = Some s.object
 code_shown_by s EntityTooLarge = Some s.object

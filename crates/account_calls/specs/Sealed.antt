@@ -6,7 +6,8 @@ use Rattle.slo_manifest.specs.declared.Segment.{Segment}
 use Rattle.swift_calls.specs.declared.calls.SwiftReply.{SwiftReply}
 use Rattle.swift_calls.specs.declared.calls.SwiftReply.TheVariants.{NotFound, Bytes}
 use Rattle.swift_calls.specs.declared.calls.SwiftRequest.{SwiftRequest}
-use Rattle.swift_calls.specs.declared.calls.SwiftRequest.TheVariants.{PutManifest, PutObject}
+use Rattle.swift_calls.specs.Files.{PutObject}
+use Rattle.swift_calls.specs.declared.calls.SwiftRequest.TheVariants.{PutManifest}
 use Rattle.swift_marks.specs.Pack.{pack_of}
 use Rattle.swift_marks.specs.Tag.{tag_text}
 use Rattle.upload_texts.specs.Records.{record_text}

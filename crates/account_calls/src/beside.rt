@@ -18,7 +18,6 @@ use crate::interpret::interpret_file_delete;
 use crate::state::ask;
 use crate::{PlanFault, Settled, next_marker, settled_file_page};
 use gate_base::{Bytes, Copying};
-use std::alloc::Global;
 use swift_calls::{NameItem, ReadList, Swift, SwiftReply, SwiftRequest};
 
 /// Makes a container beside a bucket, which may be there, by PUT of it (Object Storage API v1, "Create container"). At most
@@ -27,10 +26,9 @@ use swift_calls::{NameItem, ReadList, Swift, SwiftReply, SwiftRequest};
 #[tactic(auto, using(crate::proofs::lemmas::Sides::side_name))]
 pub fn put_container_beside<W: Swift>(
     state: &mut Settled<'_, W>,
-    bucket: &Bytes,
     folder: &Bytes,
 ) -> Result<(), PlanFault>
-    requires { IsBeside folder.now bucket.now }
+    requires { (bucket : List ℕ) × IsBeside folder.now bucket }
     ensures stays { Stays state.old state.new }
     ensures asks { Asks (always 1) (W.history state.old.store.now) (W.history state.new.store.now)
         IsSettled (MakesContainer folder.now) result }
@@ -102,9 +100,7 @@ fn delete_names<W: Swift>(
 /// Deletes a page of the files under a prefix. What is told is the marker of the next page, and `None` after the last one. The
 /// marker is copied before the first DELETE.
 fn purge_page<W: Swift>(
-    alloc: Global,
     state: &mut Settled<'_, W>,
-    bucket: &Bytes,
     folder: &Bytes,
     prefix: &Bytes,
     marker: &Bytes,
@@ -116,13 +112,14 @@ fn purge_page<W: Swift>(
     ensures counted { IfOk result (λ _. (W.history state.old.store.now).called < budget
         × ((W.history state.old.store.now).called < (W.history state.new.store.now).called)) }
     ensures is_marker { IfOk result (λ next. IfSome next IsMarker) }
-    ensures asks { Asks (always 1001) (W.history state.old.store.now) (W.history state.new.store.now)
-        (MayPurge folder.now bucket.now prefix.now marker.now) (TellsPurged folder.now bucket.now prefix.now) result }
-    ensures pays { PaysPage folder.now bucket.now prefix.now marker.now
+    ensures asks { (bucket : List ℕ)
+        → Asks (always 1001) (W.history state.old.store.now) (W.history state.new.store.now)
+        (MayPurge folder.now bucket prefix.now marker.now) (TellsPurged folder.now bucket
+        prefix.now) result }
+    ensures pays { (bucket : List ℕ) → PaysPage folder.now bucket prefix.now marker.now
         (W.history state.old.store.now) (W.history state.new.store.now) result }
 {
     let page = settled_file_page(
-        alloc,
         state,
         folder.as_slice(),
         prefix.as_slice(),
@@ -137,22 +134,23 @@ fn purge_page<W: Swift>(
 /// Storage API v1, "Delete object"). At most as many calls as there are pages and files, where the store is observable and its
 /// account consistent; and the S3 state stays. The faults are those of [`put_container_beside`]; after one some files may be left.
 pub fn purge<W: Swift>(
-    alloc: Global,
     state: &mut Settled<'_, W>,
-    bucket: &Bytes,
     folder: &Bytes,
     prefix: &Bytes,
 ) -> Result<(), PlanFault>
     requires named { IsContainerName folder.now }
     requires prefix { IsMarker prefix.now }
     ensures stays { Stays state.old state.new }
-    ensures asks { Asks (by_account (purge_calls (present (W.history state.old.store.now)) folder.now prefix.now))
+    ensures asks { (bucket : List ℕ)
+        → Asks (by_account (purge_calls (present (W.history state.old.store.now)) folder.now
+        prefix.now))
         (W.history state.old.store.now) (W.history state.new.store.now)
-        (MayPurge folder.now bucket.now prefix.now []) (TellsAllGone folder.now prefix.now) result }
+        (MayPurge folder.now bucket prefix.now []) (TellsAllGone folder.now prefix.now) result }
 {
+    let alloc = state.alloc;
     let mut marker = Bytes::new(alloc);
     'pages: loop {
-        match purge_page(alloc, state, bucket, folder, prefix, &marker)? {
+        match purge_page(state, folder, prefix, &marker)? {
             Some(next) => marker = next,
             None => return Ok(()),
         }

@@ -1,7 +1,4 @@
 //! The calls on a bucket's own container, one function a call.
-ghost use Rattle.std.specs.Prelude.{◌≡◌, ◌<◌, true};
-ghost use Rattle.gate_base.specs.Told.{moment_limit};
-ghost use Rattle.s3_names.specs.Bucket.{is_bucket};
 ghost use Rattle.upload_records.specs.Native.{IsSettled};
 ghost use Rattle.account_calls.specs.Calls.{always, Any, Asks, Becomes, Changes, DropsBucket, Given, GivenOf, SetsAcl, Tells, TellsBucket, makes_bucket};
 ghost use Rattle.account_calls.specs.Lent.{Stays};
@@ -13,8 +10,8 @@ use crate::interpret::{
 };
 use crate::state::ask;
 use crate::{PlanFault, Settled};
-use gate_base::{Bytes, Copying};
-use s3_names::Acl;
+use s3_machine::Label;
+use s3_names::{Acl, BucketName};
 use swift_calls::{Swift, SwiftRequest};
 use upload_records::container_readers_of_acl;
 
@@ -25,9 +22,8 @@ use upload_records::container_readers_of_acl;
 #[tactic(auto, using(crate::proofs::lemmas::Names::container_name))]
 pub fn head_bucket<W: Swift>(
     state: &mut Settled<'_, W>,
-    bucket: &Bytes,
+    bucket: &BucketName,
 ) -> Result<Option<Acl>, PlanFault>
-    requires { is_bucket bucket.now ≡ true }
     ensures stays { Stays state.old state.new }
     ensures asks { Asks (always 1) (W.history state.old.store.now) (W.history state.new.store.now)
         IsSettled (Tells (TellsBucket bucket.now)) result }
@@ -36,37 +32,35 @@ pub fn head_bucket<W: Swift>(
     let reply = ask(
         state.store,
         SwiftRequest::HeadContainer {
-            container: bucket.copy()?,
+            container: bucket.copy_text()?,
         },
     )?;
     interpret_bucket_head(&reply)
 }
 
 /// Makes a bucket that isn't there, and beside which both containers are there without a file, by PUT of its container
-/// (Object Storage API v1, "Create container"): the one call that commits. At most one call. The moment is in seconds since the beginning of 1970, before the year 10000. After Ok
+/// (Object Storage API v1, "Create container"): the one call that commits. At most one call. It is made at the moment of the label. After Ok
 /// the S3 state has the new bucket. After Failed, which comes only where the store's count of faults rose, and after
 /// Memory the state is the old one or the new one. Inconsistent never comes over an observable consistent account of
 /// which this is so.
 #[tactic(auto, using(crate::proofs::lemmas::Names::container_name))]
 pub fn put_bucket_container<W: Swift>(
     state: &mut Settled<'_, W>,
-    bucket: Bytes,
+    bucket: BucketName,
     acl: Acl,
-    moment: u64,
+    label: &Label,
 ) -> Result<(), PlanFault>
-    requires name { is_bucket bucket ≡ true }
-    requires moment { moment < moment_limit }
     ensures stays { Stays state.old state.new }
     ensures changes { Changes (always 1) (W.history state.old.store.now)
         (W.history state.new.store.now) (GivenOf (MayMake bucket))
-        (Becomes (makes_bucket bucket acl moment)) result }
+        (Becomes (makes_bucket bucket acl label.now.moment)) result }
 {
     let reply = ask(
         state.store,
         SwiftRequest::PutContainer {
-            container: bucket,
+            container: bucket.into_text(),
             readers: container_readers_of_acl(acl),
-            created: Some(moment),
+            created: Some(label.moment),
         },
     )?;
     interpret_bucket_put(&reply)
@@ -90,16 +84,17 @@ pub enum Dropped {
 #[tactic(auto, using(crate::proofs::lemmas::Names::container_name))]
 pub fn delete_bucket_container<W: Swift>(
     state: &mut Settled<'_, W>,
-    bucket: Bytes,
+    bucket: BucketName,
 ) -> Result<Dropped, PlanFault>
-    requires { is_bucket bucket ≡ true }
     ensures stays { Stays state.old state.new }
     ensures changes { Changes (always 1) (W.history state.old.store.now)
         (W.history state.new.store.now) (Given Any) (DropsBucket bucket) result }
 {
     let reply = ask(
         state.store,
-        SwiftRequest::DeleteContainer { container: bucket },
+        SwiftRequest::DeleteContainer {
+            container: bucket.into_text(),
+        },
     )?;
     interpret_bucket_delete(&reply)
 }
@@ -110,10 +105,9 @@ pub fn delete_bucket_container<W: Swift>(
 #[tactic(auto, using(crate::proofs::lemmas::Names::container_name))]
 pub fn post_bucket_container<W: Swift>(
     state: &mut Settled<'_, W>,
-    bucket: Bytes,
+    bucket: BucketName,
     acl: Acl,
 ) -> Result<bool, PlanFault>
-    requires { is_bucket bucket ≡ true }
     ensures stays { Stays state.old state.new }
     ensures changes { Changes (always 1) (W.history state.old.store.now)
         (W.history state.new.store.now) (Given Any) (SetsAcl bucket acl) result }
@@ -121,7 +115,7 @@ pub fn post_bucket_container<W: Swift>(
     let reply = ask(
         state.store,
         SwiftRequest::PostContainer {
-            container: bucket,
+            container: bucket.into_text(),
             readers: container_readers_of_acl(acl),
         },
     )?;

@@ -12,7 +12,6 @@ ghost use Rattle.account_calls.specs.Listing.{TellsOf};
 use crate::{PlanFault, Settled};
 use gate_base::{Bytes, Copying, List, Memory};
 use list_pages::MOST_NAMES;
-use std::alloc::Global;
 use swift_calls::{NameItem, Swift};
 
 /// A page of the files of a container whose names begin with a prefix and come after a marker, by GET of the container (Object
@@ -20,7 +19,6 @@ use swift_calls::{NameItem, Swift};
 /// S3 state stays. Failed comes only where the store's count of faults rose; Memory where memory ran out; Inconsistent never
 /// over an observable consistent account.
 pub fn settled_file_page<W: Swift>(
-    alloc: Global,
     state: &mut Settled<'_, W>,
     folder: &[u8],
     prefix: &[u8],
@@ -36,7 +34,7 @@ pub fn settled_file_page<W: Swift>(
     ensures asks { Asks (always 1) (W.history state.old.store.now) (W.history state.new.store.now)
         Any (TellsOf (TellsFiles folder.now prefix.now marker.now)) result }
 {
-    Ok(state.names(alloc, folder, prefix, marker)?)
+    Ok(state.names(folder, prefix, marker)?)
 }
 
 /// The name that the next page begins behind: the last one of a whole page, and `None` after a shorter one.

@@ -1,10 +1,9 @@
 //! The listing of a bucket's objects: the names of its container page by page, rolled up as they come.
 ghost use Rattle.std.specs.Prelude.{◌≡◌, ◌<◌, ◌+◌, true, false, map, IfOk, Ok};
 ghost use Rattle.std.specs.List.{All};
-ghost use Rattle.s3_names.specs.Bucket.{is_bucket};
 ghost use Rattle.s3_machine.specs.Shown.{IsShownItem};
 ghost use Rattle.s3_machine.specs.Limits.{is_listing_text};
-ghost use Rattle.s3_machine.specs.Step.{IsProperAsked};
+ghost use Rattle.s3_machine.specs.Proper.{IsProperAsked};
 ghost use Rattle.swift_calls.specs.History.{budget, present};
 ghost use Rattle.swift_calls.specs.Limits.{IsMarker};
 ghost use Rattle.upload_records.specs.Native.{IsSettled};
@@ -18,21 +17,19 @@ ghost use Rattle.account_calls.specs.Listing.{TellsOf};
 use crate::{PlanFault, Settled};
 use gate_base::{Bytes, List};
 use list_pages::{MOST_NAMES, Roll, names};
-use s3_machine::{Asked, Item};
-use std::alloc::Global;
+use s3_machine::{Asked, Item, ObjectListing};
+use s3_names::BucketName;
 use swift_calls::{NameItem, Swift};
 
 /// A page of the keys of a bucket that begin with a prefix and come after a marker, by GET of its container (Object Storage
 /// API v1, "Show container details and list objects").
 #[tactic(auto, using(crate::proofs::KeyPages::page_fits))]
 fn page<W: Swift>(
-    alloc: Global,
     state: &mut Settled<'_, W>,
-    bucket: &Bytes,
+    bucket: &BucketName,
     prefix: &Bytes,
     marker: &[u8],
 ) -> Result<List<NameItem>, PlanFault>
-    requires name { is_bucket bucket.now ≡ true }
     requires prefix { IsMarker prefix.now }
     requires marker { IsMarker marker.now }
     ensures stays { Stays state.old state.new }
@@ -42,10 +39,11 @@ fn page<W: Swift>(
     ensures asks { Asks (always 1) (W.history state.old.store.now) (W.history state.new.store.now)
         IsSettled (TellsOf (TellsKeys bucket.now prefix.now marker.now)) result }
 {
+    let alloc = state.alloc;
     Ok(names(
         alloc,
         state.store,
-        bucket.as_slice(),
+        bucket.bytes(),
         prefix.as_slice(),
         marker,
     )?)
@@ -54,13 +52,11 @@ fn page<W: Swift>(
 /// Takes the next page of keys, of a listing that wants items and is not full yet. What is told is whether another is
 /// wanted. It is asked for behind the last key, or behind all keys of the common prefix that this one rolls up into.
 fn take_page<W: Swift>(
-    alloc: Global,
     state: &mut Settled<'_, W>,
-    bucket: &Bytes,
+    bucket: &BucketName,
     prefix: &Bytes,
     roll: &mut Roll,
 ) -> Result<bool, PlanFault>
-    requires name { is_bucket bucket.now ≡ true }
     requires prefix { IsMarker prefix.now }
     requires same { roll.old.wanted.prefix ≡ prefix.now }
     requires delimiter { is_listing_text roll.old.wanted.delimiter ≡ true }
@@ -76,7 +72,7 @@ fn take_page<W: Swift>(
     ensures asks { Asks (always 1) (W.history state.old.store.now) (W.history state.new.store.now)
         IsSettled (TellsOf (TellsTaken bucket.now prefix.now roll.old roll.new)) result }
 {
-    let page = page(alloc, state, bucket, prefix, roll.next_marker())?;
+    let page = page(state, bucket, prefix, roll.next_marker())?;
     if !roll.push_page(page.as_slice())? {
         return Ok(false);
     }
@@ -93,14 +89,28 @@ fn take_page<W: Swift>(
 /// pages of the bucket's objects, and at most one more than items are shown, where the store is observable and its account
 /// consistent; and the S3 state stays. One page is held at a time. Failed comes only where the store's count of faults
 /// rose; Memory where memory ran out; Inconsistent never over an observable consistent account.
-#[tactic(auto, using(crate::proofs::AskedMarkers::prefix_is_marker))]
 pub fn list_objects<W: Swift>(
-    alloc: Global,
     state: &mut Settled<'_, W>,
-    bucket: &Bytes,
+    listing: &ObjectListing,
+) -> Result<(List<Item>, bool), PlanFault>
+    ensures stays { Stays state.old state.new }
+    ensures dated { IfOk result (λ told. All IsShownItem told.0) }
+    ensures asks { Asks
+        (by_account (pages_listed listing.now.bucket listing.now.asked
+        (present (W.history state.old.store.now))))
+        (W.history state.old.store.now) (W.history state.new.store.now) IsSettled
+        (Tells (TellsListing listing.now.bucket listing.now.asked)) result }
+{
+    listed_objects(state, &listing.bucket, listing.asked.get())
+}
+
+/// The same, of what is asked for within the limits.
+#[tactic(auto, using(crate::proofs::AskedMarkers::prefix_is_marker))]
+fn listed_objects<W: Swift>(
+    state: &mut Settled<'_, W>,
+    bucket: &BucketName,
     asked: &Asked,
 ) -> Result<(List<Item>, bool), PlanFault>
-    requires name { is_bucket bucket.now ≡ true }
     requires asked { IsProperAsked asked.now }
     ensures stays { Stays state.old state.new }
     ensures dated { IfOk result (λ told. All IsShownItem told.0) }
@@ -109,12 +119,14 @@ pub fn list_objects<W: Swift>(
         (W.history state.old.store.now) (W.history state.new.store.now) IsSettled
         (Tells (TellsListing bucket.now asked.now)) result }
 {
+    let alloc = state.alloc;
+    bucket.fits();
     let mut roll = Roll::new(alloc, asked)?;
     if asked.max == 0 {
         return Ok(roll.finish());
     }
     'pages: loop {
-        if !take_page(alloc, state, bucket, &asked.prefix, &mut roll)? {
+        if !take_page(state, bucket, &asked.prefix, &mut roll)? {
             return Ok(roll.finish());
         }
     }

@@ -4,6 +4,7 @@
 
 mod beside;
 mod bucket;
+mod condition;
 mod fault;
 mod file_pages;
 mod interpret;
@@ -21,14 +22,15 @@ pub use beside::{interpret_container_put, purge, put_container_beside};
 pub use bucket::{
     Dropped, delete_bucket_container, head_bucket, post_bucket_container, put_bucket_container,
 };
+pub use condition::condition_refusal;
 pub use fault::PlanFault;
 pub use file_pages::{next_marker, settled_file_page};
 pub use interpret::{interpret_file_delete, interpret_listed_segments, interpret_put_with_etag};
 pub use keys::list_objects;
-pub use laws::{law_answered_fault_free, law_never_unavailable};
+pub use laws::{law_answered_fault_free, law_never_unavailable, law_one_acknowledged};
 pub use listing::{container_names, list_buckets};
 pub use object::{delete_object, get_object, head_object, put_object};
-pub use plans::{PlansOf, plans_of, reply_of, stored_end, taken_text};
+pub use plans::{reply_of, stored_end};
 pub use puts::etag_of_put;
 pub use sealed::{interpret_sealed_get, object_request, sealed_object_tag, sealed_segments};
 pub use state::{Known, Settled, ask};

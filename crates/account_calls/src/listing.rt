@@ -210,7 +210,6 @@ fn add_bucket_of_container<W: Swift>(
 
 /// The buckets among the containers of these names.
 fn buckets_of_containers<W: Swift>(
-    alloc: Global,
     state: &mut Settled<'_, W>,
     names: &[Bytes],
 ) -> Result<List<BucketItem>, PlanFault>
@@ -220,6 +219,7 @@ fn buckets_of_containers<W: Swift>(
         (W.history state.old.store.now) (W.history state.new.store.now) (HasNames names.now)
         (TellsOf (TellsItems names.now)) result }
 {
+    let alloc = state.alloc;
     let mut items = List::new(alloc);
     for name in names {
         add_bucket_of_container(state, &mut items, name)?;
@@ -231,18 +231,16 @@ fn buckets_of_containers<W: Swift>(
 /// and then HEAD of each that is a bucket's. At most as many calls as there are pages and buckets, where the store is
 /// observable and its account consistent; and the S3 state stays. Failed comes only where the store's count of faults
 /// rose; Memory where memory ran out; Inconsistent never over an observable consistent account.
-pub fn list_buckets<W: Swift>(
-    alloc: Global,
-    state: &mut Settled<'_, W>,
-) -> Result<List<BucketItem>, PlanFault>
+pub fn list_buckets<W: Swift>(state: &mut Settled<'_, W>) -> Result<List<BucketItem>, PlanFault>
     ensures stays { Stays state.old state.new }
     ensures dated { IfOk result (All IsShownBucket) }
     ensures asks { Asks (by_account (pages (len (present (W.history state.old.store.now))) + len
         (s3_state (present (W.history state.old.store.now))))) (W.history state.old.store.now)
         (W.history state.new.store.now) IsSettled (Tells TellsBuckets) result }
 {
+    let alloc = state.alloc;
     let names = container_names(alloc, state.store)?;
-    buckets_of_containers(alloc, state, names.as_slice())
+    buckets_of_containers(state, names.as_slice())
 }
 
 /// The names of all containers in byte order, page by page, be a completion sealed or not. At most as many calls as there are

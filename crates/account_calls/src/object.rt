@@ -1,10 +1,7 @@
 //! The calls on the files of a bucket's container, one function a call.
-ghost use Rattle.std.specs.Prelude.{◌≡◌, ◌<◌, true, IfOk, IfSome, OnOk};
-ghost use Rattle.gate_base.specs.Told.{moment_limit};
-ghost use Rattle.s3_names.specs.Bucket.{is_bucket};
-ghost use Rattle.s3_names.specs.Key.{is_key};
+ghost use Rattle.std.specs.Prelude.{◌≡◌, true, IfOk, IfSome, OnOk};
 ghost use Rattle.s3_machine.specs.ETag.{body_etag};
-ghost use Rattle.s3_machine.specs.Step.{IsProperContent};
+ghost use Rattle.s3_machine.specs.Proper.{IsPlace, IsProperContent};
 ghost use Rattle.swift_calls.specs.Limits.{IsRange};
 ghost use Rattle.swift_calls.specs.Step.{Fit};
 ghost use Rattle.swift_marks.specs.Tag.{has_text, tag_text};
@@ -21,11 +18,11 @@ use crate::interpret::{
 };
 use crate::state::ask;
 use crate::{PlanFault, Settled};
-use gate_base::{Bytes, Copying, Memory};
-use s3_machine::ObjectHead;
-use s3_names::Meta;
+use gate_base::{Bytes, Memory};
+use s3_machine::{Label, ObjectHead, ObjectName, ObjectPut};
+use s3_names::{BucketName, Key};
 use std::alloc::Global;
-use swift_calls::{Swift, SwiftRequest};
+use swift_calls::{FilePut, Swift, SwiftRequest};
 use swift_marks::{Tag, pack};
 
 /// The head of an object, and `None` where it is missing, by HEAD of its file (Object Storage API v1, "Show object
@@ -34,21 +31,19 @@ use swift_marks::{Tag, pack};
 /// never over an observable consistent account.
 #[tactic(auto, using(crate::proofs::lemmas::Names::container_name, crate::proofs::lemmas::Names::object_name))]
 pub fn head_object<W: Swift>(
-    alloc: Global,
     state: &mut Settled<'_, W>,
-    bucket: &Bytes,
-    key: &Bytes,
+    bucket: &BucketName,
+    key: &Key,
 ) -> Result<Option<ObjectHead>, PlanFault>
-    requires name { is_bucket bucket.now ≡ true }
-    requires key { is_key key.now ≡ true }
     ensures stays { Stays state.old state.new }
     ensures asks { Asks (always 1) (W.history state.old.store.now) (W.history state.new.store.now)
         IsSettled (Tells (TellsObject bucket.now key.now)) result }
     ensures leaves { LeavesAccount (W.history state.old.store.now) (W.history state.new.store.now) }
     ensures shown { IfOk result IsShownHead }
 {
-    let container = bucket.copy()?;
-    let name = key.copy()?;
+    let alloc = state.alloc;
+    let container = bucket.copy_text()?;
+    let name = key.copy_text()?;
     let reply = ask(state.store, SwiftRequest::HeadObject { container, name })?;
     interpret_object_head(alloc, &reply)
 }
@@ -61,16 +56,13 @@ pub fn head_object<W: Swift>(
 /// and never over an observable consistent account whose object has these.
 #[tactic(auto, using(crate::proofs::lemmas::Names::container_name, crate::proofs::lemmas::Names::object_name))]
 pub fn get_object<W: Swift>(
-    alloc: Global,
     state: &mut Settled<'_, W>,
-    bucket: Bytes,
-    key: Bytes,
+    bucket: BucketName,
+    key: Key,
     etag: &[u8],
     size: u64,
     range: Option<(u64, u64)>,
 ) -> Result<Option<Bytes>, PlanFault>
-    requires name { is_bucket bucket ≡ true }
-    requires key { is_key key ≡ true }
     requires range { IfSome range IsRange }
     ensures stays { Stays state.old state.new }
     ensures asks { Asks (always 1) (W.history state.old.store.now) (W.history state.new.store.now)
@@ -81,11 +73,12 @@ pub fn get_object<W: Swift>(
     ensures counts { CountsOne (W.history state.old.store.now).called
         (W.history state.new.store.now).called result }
 {
+    let alloc = state.alloc;
     let reply = ask(
         state.store,
         SwiftRequest::GetObject {
-            container: bucket,
-            name: key,
+            container: bucket.into_text(),
+            name: key.into_text(),
             range,
         },
     )?;
@@ -93,35 +86,29 @@ pub fn get_object<W: Swift>(
 }
 
 /// Puts an object into a bucket that is there, by PUT of its file (Object Storage API v1, "Create or replace object"):
-/// the one call that commits. At most one call. The moment is in seconds since the beginning of 1970, before the year
-/// 10000. After Ok the S3 state has the new object in place of what stood under the key, and over every observable store, consistent
+/// the one call that commits. At most one call. It is put at the moment of
+/// the label. After Ok the S3 state has the new object in place of what stood under the key, and over every observable store, consistent
 /// or not, its file stands. After Failed, which comes only
 /// where the store's count of faults rose, and after Memory the state is the old one or the new one. Inconsistent never
 /// comes over an observable consistent account in which the bucket is there.
 pub fn put_object<W: Swift>(
-    alloc: Global,
     state: &mut Settled<'_, W>,
-    bucket: Bytes,
-    key: Bytes,
-    content_type: Bytes,
-    meta: &Meta,
-    body: Bytes,
+    put: ObjectPut,
     etag: &[u8],
-    moment: u64,
+    label: &Label,
 ) -> Result<(), PlanFault>
-    requires name { is_bucket bucket ≡ true }
-    requires key { is_key key ≡ true }
-    requires content { IsProperContent content_type meta.now body }
-    requires etag { etag.now ≡ body_etag body }
-    requires moment { moment < moment_limit }
+    requires etag { etag.now ≡ body_etag put.content.body }
     ensures stays { Stays state.old state.new }
     ensures changes { Changes (always 1) (W.history state.old.store.now)
-        (W.history state.new.store.now) (Given (HasBucket bucket))
-        (Becomes (puts_object bucket key content_type meta.now body moment)) result }
+        (W.history state.new.store.now) (Given (HasBucket put.bucket))
+        (Becomes (puts_object put.bucket put.key put.content.content_type put.content.meta
+        put.content.body label.now.moment)) result }
     ensures stands { Stands (W.history state.new.store.now)
-        (put_of bucket key content_type meta.now body moment) result }
+        (put_of put.bucket put.key put.content.content_type put.content.meta put.content.body
+        label.now.moment) result }
 {
-    let request = put_request(alloc, bucket, key, content_type, meta, body, etag, moment)?;
+    let alloc = state.alloc;
+    let request = put_request(alloc, put, etag, label)?;
     let reply = ask(state.store, request)?;
     interpret_put_with_etag(&reply, etag)
 }
@@ -130,33 +117,31 @@ pub fn put_object<W: Swift>(
 #[tactic(auto, using(crate::proofs::lemmas::Fits::put_fits, crate::proofs::lemmas::Fits::tag_has_text))]
 fn put_request(
     alloc: Global,
-    bucket: Bytes,
-    key: Bytes,
-    content_type: Bytes,
-    meta: &Meta,
-    body: Bytes,
+    put: ObjectPut,
     etag: &[u8],
-    moment: u64,
+    label: &Label,
 ) -> Result<SwiftRequest, Memory>
-    requires name { is_bucket bucket ≡ true }
-    requires key { is_key key ≡ true }
-    requires content { IsProperContent content_type meta.now body }
-    requires etag { etag.now ≡ body_etag body }
-    requires moment { moment < moment_limit }
-    ensures request { IfOk result
-        (λ request. request ≡ put_of bucket key content_type meta.now body moment) }
+    requires etag { etag.now ≡ body_etag put.content.body }
+    ensures request { IfOk result (λ request. request
+        ≡ put_of put.bucket put.key put.content.content_type put.content.meta put.content.body
+        label.now.moment) }
     ensures fits { IfOk result Fit }
-    ensures ordered { OnOk result (names_ascend meta.now ≡ true) }
+    ensures named { OnOk result (IsPlace put.bucket put.key) }
+    ensures content { OnOk result
+        (IsProperContent put.content.content_type put.content.meta put.content.body) }
+    ensures ordered { OnOk result (names_ascend put.content.meta ≡ true) }
 {
-    let text = tag_of_put_object(alloc, content_type, etag, moment)?;
-    let pieces = pack(alloc, meta)?;
-    Ok(SwiftRequest::PutObject {
-        container: bucket,
-        name: key,
+    let content = put.content.into_value();
+    let text = tag_of_put_object(alloc, content.content_type, etag, label.moment)?;
+    let pieces = pack(alloc, &content.meta)?;
+    Ok(SwiftRequest::PutObject(FilePut {
+        container: put.bucket.into_text(),
+        name: put.key.into_text(),
         content_type: text,
         meta: pieces,
-        body,
-    })
+        body: content.body.into_bytes(),
+        fresh: false,
+    }))
 }
 
 /// The tag of an object that is put in one piece, with the ETag of its bytes, as its file has it.
@@ -185,20 +170,18 @@ fn tag_of_put_object(
 #[tactic(auto, using(crate::proofs::lemmas::Names::container_name, crate::proofs::lemmas::Names::object_name))]
 pub fn delete_object<W: Swift>(
     state: &mut Settled<'_, W>,
-    bucket: Bytes,
-    key: Bytes,
+    name: ObjectName,
 ) -> Result<(), PlanFault>
-    requires name { is_bucket bucket ≡ true }
-    requires key { is_key key ≡ true }
     ensures stays { Stays state.old state.new }
     ensures changes { Changes (always 1) (W.history state.old.store.now)
-        (W.history state.new.store.now) (Given Any) (Becomes (drops_object bucket key)) result }
+        (W.history state.new.store.now) (Given Any) (Becomes (drops_object name.bucket name.key))
+        result }
 {
     let reply = ask(
         state.store,
         SwiftRequest::DeleteObject {
-            container: bucket,
-            name: key,
+            container: name.bucket.into_text(),
+            name: name.key.into_text(),
         },
     )?;
     interpret_file_delete(&reply)

@@ -17,7 +17,7 @@ pub fn etag_of_put(request: &SwiftRequest) -> [u8; 32]
     ensures { result ≡ etag_put request.now }
 {
     match request {
-        SwiftRequest::PutObject { body, .. } => body_etag(body.as_slice()),
+        SwiftRequest::PutObject(put) => body_etag(put.body.as_slice()),
         SwiftRequest::PutManifest { segments, .. } => etag_of_segments(segments.as_slice()),
         _ => body_etag(&[]),
     }

@@ -16,7 +16,7 @@ use gate_base::{Bytes, Copying, List, Memory};
 use s3_names::id_digits;
 use slo_manifest::Segment;
 use std::alloc::Global;
-use swift_calls::{SwiftReply, SwiftRequest};
+use swift_calls::{FilePut, SwiftReply, SwiftRequest};
 use swift_marks::{Tag, pack};
 use upload_records::{segment_name, segments_container};
 use upload_texts::{RecordFault, Sealed, SealedPart};
@@ -78,13 +78,14 @@ fn put_by_segments(
     ensures { result ≡ put_by container name content_type meta segments }
 {
     if segments.is_empty() {
-        return SwiftRequest::PutObject {
+        return SwiftRequest::PutObject(FilePut {
             container,
             name,
             content_type,
             meta,
             body: Bytes::new(alloc),
-        };
+            fresh: false,
+        });
     }
     SwiftRequest::PutManifest {
         container,

@@ -23,22 +23,28 @@ pub enum Known {
 
 /// A store as an operation is answered over it: one that was settled when it was held ([`Settled::hold`]). The calls for plans
 /// that make their own may seal a completion on it, so the type keeps nothing of that; the clauses of the other calls ask for it.
+/// It has the allocator of the plans that are lent it.
 #[derive(Drop)]
 pub struct Settled<'a, W: Swift> {
+    pub alloc: Global,
     pub store: &'a mut W,
     pub(crate) settings: &'a Settings,
 }
 
 impl<'a, W: Swift> Settled<'a, W> {
     /// A store that is known to be settled ([`Known::Settled`]). It takes no memory.
-    pub fn hold(store: &'a mut W, settings: &'a Settings) -> Settled<'a, W>
+    pub fn hold(alloc: Global, store: &'a mut W, settings: &'a Settings) -> Settled<'a, W>
         requires { IsTrue (W.history store.old).observable
             → IsSettled (present (W.history store.old)) }
         ensures same { result.store.ghost_name ≡ store.entry.ghost_name }
         ensures store { result.store.now ≡ store.old }
         ensures settings { result.settings.now ≡ settings.now }
     {
-        Settled { store, settings }
+        Settled {
+            alloc,
+            store,
+            settings,
+        }
     }
 
     /// The store.
@@ -65,10 +71,19 @@ impl<'a, W: Swift> Settled<'a, W> {
         ask(self.store, request)
     }
 
+    /// The same, of which all replicas are asked, as for [`ask_newest`].
+    pub fn call_newest(&mut self, request: SwiftRequest) -> Result<SwiftReply, SwiftFault>
+        requires { Fit request }
+        ensures stays { Stays self.old self.new }
+        ensures calls { Calls (W.history self.old.store.now) (W.history self.new.store.now) request
+            result }
+    {
+        ask_newest(self.store, request)
+    }
+
     /// One page of the names of a container, for a plan that makes its own calls ([`list_pages::names`]).
     pub fn names(
         &mut self,
-        alloc: Global,
         container: &[u8],
         prefix: &[u8],
         marker: &[u8],
@@ -79,7 +94,7 @@ impl<'a, W: Swift> Settled<'a, W> {
             container.now prefix.now marker.now result }
         ensures page { IfOk result (λ items. IsPageOf prefix.now marker.now (map name_in items)) }
     {
-        names(alloc, self.store, container, prefix, marker)
+        names(self.alloc, self.store, container, prefix, marker)
     }
 }
 
@@ -90,6 +105,16 @@ pub fn ask<W: Swift>(store: &mut W, request: SwiftRequest) -> Result<SwiftReply,
     ensures { Calls (W.history store.old) (W.history store.new) request result }
 {
     let answer = store.call(&request);
+    drop_request(request);
+    answer
+}
+
+/// The same, of which all replicas are asked: for a call on whose answer something is deleted or overwritten.
+pub fn ask_newest<W: Swift>(store: &mut W, request: SwiftRequest) -> Result<SwiftReply, SwiftFault>
+    requires { Fit request }
+    ensures { Calls (W.history store.old) (W.history store.new) request result }
+{
+    let answer = store.call_newest(&request);
     drop_request(request);
     answer
 }

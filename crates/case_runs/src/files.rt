@@ -6,7 +6,7 @@ use case_text::{
 use gate_base::{Bytes, List, drop};
 use slo_manifest::{Form, read};
 use std::alloc::Global;
-use swift_calls::{ReadList, Swift, SwiftReply, SwiftRequest};
+use swift_calls::{FilePut, ReadList, Swift, SwiftReply, SwiftRequest};
 
 /// Puts the files that a setup names by its lines `file CONTAINER NAME TEXT`, each into a container that is made for it; those of
 /// a type, by its lines `typed CONTAINER NAME TYPE TEXT`, and those that list segments, by its lines
@@ -39,13 +39,14 @@ fn put_file_of_setup<W: Swift>(alloc: Global, text: &str, store: &mut W, told: &
         created: None,
     };
     put_for_setup(store, request, told);
-    let request = SwiftRequest::PutObject {
+    let request = SwiftRequest::PutObject(FilePut {
         container: copy_of_bytes(alloc, container.as_bytes(), told),
         name: copy_of_bytes(alloc, name.as_bytes(), told),
         content_type: copy_of_bytes(alloc, b"application/json", told),
         meta: List::new(alloc),
         body: bytes_of_escaped_text(alloc, text, told),
-    };
+        fresh: false,
+    });
     put_for_setup(store, request, told);
 }
 
@@ -53,13 +54,14 @@ fn put_typed_file_of_setup<W: Swift>(alloc: Global, text: &str, store: &mut W, t
     let (container, text) = cut_text(text, ' ');
     let (name, text) = cut_text(text, ' ');
     let (content_type, text) = cut_text(text, ' ');
-    let request = SwiftRequest::PutObject {
+    let request = SwiftRequest::PutObject(FilePut {
         container: copy_of_bytes(alloc, container.as_bytes(), told),
         name: copy_of_bytes(alloc, name.as_bytes(), told),
         content_type: copy_of_bytes(alloc, content_type.as_bytes(), told),
         meta: List::new(alloc),
         body: bytes_of_escaped_text(alloc, text, told),
-    };
+        fresh: false,
+    });
     put_for_setup(store, request, told);
 }
 
@@ -92,13 +94,14 @@ fn put_numbered_files_of_setup<W: Swift>(
     let (count, text) = cut_text(text, ' ');
     let (content_type, front) = cut_text(text, ' ');
     for number in 0..number_of_text(count, told) {
-        let request = SwiftRequest::PutObject {
+        let request = SwiftRequest::PutObject(FilePut {
             container: copy_of_bytes(alloc, container.as_bytes(), told),
             name: numbered_name(alloc, front, number, told),
             content_type: copy_of_bytes(alloc, content_type.as_bytes(), told),
             meta: List::new(alloc),
             body: Bytes::new(alloc),
-        };
+            fresh: false,
+        });
         put_for_setup(store, request, told);
     }
 }

@@ -1,8 +1,6 @@
 //! The same requests through the S3 service as one machine: what it answers is what was written.
 ghost use Rattle.std.specs.Prelude.{IsTrue};
 ghost use Rattle.http_wire.specs.Print.{IsReplyStatus};
-ghost use Rattle.s3_machine.specs.Step.{IsProperOp};
-ghost use Rattle.s3_requests.specs.Proper.{IsProperMeant};
 
 use crate::play::First;
 use case_text::{
@@ -10,16 +8,17 @@ use case_text::{
     given_text_behind, has_failing_call, has_given_line, reply_of_pieces, tell_bytes_by_lines,
 };
 use case_verbs::{
-    Talk, USUAL_LARGEST_BODY, USUAL_LEAST_PART, USUAL_REGION, is_shown_reply, settings_of_region,
+    Talk, USUAL_LARGEST_BODY, USUAL_LEAST_PART, USUAL_REGION, is_shown_reply, moment_with_date,
+    settings_of_region,
 };
-use gate_base::{Bytes, Caller, MOMENT_LIMIT, Page, Piece, cut, drop};
+use gate_base::{Bytes, Caller, Page, Piece, cut, drop};
 use http_wire::{Message, print_page};
 use s3_machine::{Label, Op, Reply, Settings};
 use s3_names::Target;
 use s3_native::Native;
 use s3_pages::page;
 use s3_requests::{Meant, meaning};
-use sigv4::{Keys, verify};
+use sigv4::{Keys, SignedRequest, verify};
 use std::alloc::Global;
 
 /// The machine, and how many requests a run has had.
@@ -142,7 +141,7 @@ impl Machine {
             if is_reply_on_connection(rest, number) {
                 let turn = Turn {
                     service,
-                    label: label_of_turn(self.turn, moments),
+                    label: label_of_turn(self.turn, moments, told),
                     pieces: rest,
                 };
                 self.turn = self.turn.saturating_add(1);
@@ -173,8 +172,13 @@ impl Machine {
         told: &mut Told,
     ) {
         let keys = &turn.service.keys;
-        let region = turn.service.settings.region.as_slice();
-        if let Ok(caller) = verify(self.alloc, keys, region, message, target, turn.label.moment) {
+        let request = SignedRequest {
+            message,
+            target,
+            region: turn.service.settings.region.as_slice(),
+            moment: turn.label.moment,
+        };
+        if let Ok(caller) = verify(self.alloc, keys, &request) {
             self.answer_by_meaning(message, target, caller, turn, told);
         }
     }
@@ -200,9 +204,7 @@ impl Machine {
         caller: Caller,
         turn: &Turn,
         told: &mut Told,
-    )
-        requires { IsProperMeant meant.now }
-    {
+    ) {
         match meant {
             Meant::Op(op) => self.answer_operation(op, message, target, caller, turn, told),
             Meant::Refused(_) => {}
@@ -218,16 +220,13 @@ impl Machine {
         caller: Caller,
         turn: &Turn,
         told: &mut Told,
-    )
-        requires { IsProperOp op.now }
-    {
+    ) {
         let label = Label {
             caller,
-            ..turn.label
+            moment: turn.label.moment,
+            request_id: turn.label.request_id,
+            draw: turn.label.draw,
         };
-        if label.moment >= MOMENT_LIMIT {
-            return told.note_fault(Fault::Unread("a moment past the year 9999"));
-        }
         let method = message.method.as_slice();
         let resource = target.raw_path.as_slice();
         match self.native.step(op, &label) {
@@ -269,9 +268,37 @@ fn compare_reply_with_pieces(
     turn: &Turn,
     told: &mut Told,
 ) {
+    if let Some(page) = page_of_machine_reply(alloc, reply, label, resource, told) {
+        compare_page_with_pieces(alloc, &page, method, turn, told);
+    }
+}
+
+fn page_of_machine_reply(
+    alloc: Global,
+    reply: Reply,
+    label: &Label,
+    resource: &[u8],
+    told: &mut Told,
+) -> Option<Page> {
+    if is_shown_reply(&reply) {
+        told.keep_made(page(alloc, reply, label, resource))
+    } else {
+        drop(reply);
+        told.note_fault(Fault::Unread("a reply without a page"));
+        None
+    }
+}
+
+fn compare_page_with_pieces(
+    alloc: Global,
+    page: &Page,
+    method: &[u8],
+    turn: &Turn,
+    told: &mut Told,
+) {
     let came = reply_of_pieces(alloc, turn.pieces, told);
     let closing = ends_connection(came.as_slice());
-    let due = printed_machine_reply(alloc, reply, label, method, resource, closing, told);
+    let due = printed_machine_page(alloc, page, method, closing, told);
     if due.as_slice() != came.as_slice() {
         told.say("by the machine:\n");
         tell_bytes_by_lines(alloc, due.as_slice(), told);
@@ -294,8 +321,25 @@ fn ends_connection(reply: &[u8]) -> bool {
     false
 }
 
+/// The bytes of a reply of the machine to a request of that method.
+fn printed_machine_page(
+    alloc: Global,
+    page: &Page,
+    method: &[u8],
+    closing: bool,
+    told: &mut Told,
+) -> Bytes {
+    if !is_reply_status(page.status) {
+        return nothing_printed(alloc, Fault::Unread("no status of a reply"), told);
+    }
+    match print_page(alloc, page, method, closing) {
+        Ok(text) => text,
+        Err(_) => nothing_printed(alloc, Fault::Memory, told),
+    }
+}
+
 /// The label of a request by its place in a run, from 0: two words are drawn a request, and the last moment comes again.
-fn label_of_turn(turn: u64, moments: &[u64]) -> Label {
+fn label_of_turn(turn: u64, moments: &[u64], told: &mut Told) -> Label {
     let draws = 2 * u128::from(turn);
     let moment = match moments.get(turn as usize) {
         Some(moment) => *moment,
@@ -306,7 +350,7 @@ fn label_of_turn(turn: u64, moments: &[u64]) -> Label {
     };
     Label {
         caller: Caller::Anonymous,
-        moment,
+        moment: moment_with_date(moment, told),
         request_id: draws + 1,
         draw: draws + 2,
     }
@@ -381,43 +425,6 @@ pub(crate) fn service_of_run(alloc: Global, given: Given<'_>, told: &mut Told) -
 fn keys_of_run(alloc: Global, given: Given<'_>, told: &mut Told) -> Option<Keys> {
     let text = given_keys(alloc, given);
     told.keep_made(Keys::read(alloc, text.text().as_bytes()))
-}
-
-/// The bytes of a reply of the machine to a request of that method.
-fn printed_machine_reply(
-    alloc: Global,
-    reply: Reply,
-    label: &Label,
-    method: &[u8],
-    resource: &[u8],
-    closing: bool,
-    told: &mut Told,
-) -> Bytes {
-    if is_shown_reply(&reply) && label.moment < MOMENT_LIMIT {
-        match page(alloc, reply, label, resource) {
-            Ok(page) => printed_page(alloc, &page, method, closing, told),
-            Err(_) => nothing_printed(alloc, Fault::Memory, told),
-        }
-    } else {
-        drop(reply);
-        nothing_printed(alloc, Fault::Unread("a reply without a page"), told)
-    }
-}
-
-fn printed_page(
-    alloc: Global,
-    page: &Page,
-    method: &[u8],
-    closing: bool,
-    told: &mut Told,
-) -> Bytes {
-    if !is_reply_status(page.status) {
-        return nothing_printed(alloc, Fault::Unread("no status of a reply"), told);
-    }
-    match print_page(alloc, page, method, closing) {
-        Ok(text) => text,
-        Err(_) => nothing_printed(alloc, Fault::Memory, told),
-    }
 }
 
 fn nothing_printed(alloc: Global, fault: Fault, told: &mut Told) -> Bytes {

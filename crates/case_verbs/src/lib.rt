@@ -14,7 +14,7 @@ mod talk;
 mod verbs;
 
 pub use settings::{USUAL_LARGEST_BODY, USUAL_LEAST_PART, USUAL_REGION, settings_of_region};
-pub use shown::is_shown_reply;
+pub use shown::{is_shown_reply, moment_with_date};
 pub use swift_verbs::wire::place_of_store;
 pub use talk::{Talk, opens_connection};
 pub use verbs::tell_verb;

@@ -31,7 +31,7 @@ fn tell_meaning_of_message(
 ) {
     match Target::read(alloc, message.target.as_slice()) {
         Ok(target) => tell_meaning_with_target(alloc, verb, caller, message, &target, told),
-        Err(_) => tell_owned_value(Meant::Refused(Code::InvalidURI), told),
+        Err(_) => tell_owned_value(Meant::refused(Code::InvalidURI), told),
     }
 }
 

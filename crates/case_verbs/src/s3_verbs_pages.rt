@@ -2,20 +2,21 @@
 //! has four words, of which the last may have spaces: `MOMENT NUMBER WORD TEXT`. Of a bucket they are `CREATED 0 - NAME`; of an
 //! object `MODIFIED SIZE ETAG KEY`, and of a common prefix `0 0 - PREFIX`; of an upload `STARTED ID - KEY`; of a part
 //! `MODIFIED SIZE NUMBER ETAG`. Each field `key` of a deletion is one of its keys.
-ghost use Rattle.std.specs.Prelude.{◌≢◌, ◌<◌};
-ghost use Rattle.gate_base.specs.Told.{moment_limit};
+ghost use Rattle.std.specs.Prelude.{◌≢◌};
 ghost use Rattle.s3_machine.specs.Shown.{IsShowable};
 
 use crate::s3_verbs::acl_of_word;
 use crate::s3_verbs_message::message_of_case;
-use crate::shown::is_shown_reply;
+use crate::shown::{is_shown_reply, moment_with_date};
 use case_text::{Fault, Told, copy_of_bytes, cut_text, number_of_text, tell_value, text_of_bytes};
-use gate_base::{Bytes, Caller, List, MOMENT_LIMIT, Pair, cut, drop};
+use gate_base::{Bytes, Caller, List, Pair, cut, drop};
 use http_wire::{Message, first_value, has_header};
 use s3_machine::{
-    Asked, BucketItem, Code, Item, ItemHead, Label, ObjectHead, PartItem, Reply, UploadItem,
+    Asked, BucketItem, Code, CompletedObject, CopiedBytes, DeletedKeys, Item, ItemHead, Label,
+    ObjectBytes, ObjectHead, ObjectPage, ObjectsReply, PartItem, PartPage, PartsAsked, Reply,
+    StartedUpload, UploadItem, UploadPage, UploadsAsked, UploadsReply,
 };
-use s3_names::Meta;
+use s3_names::{Key, Meta};
 use s3_pages::page;
 use std::alloc::Global;
 
@@ -63,7 +64,7 @@ pub(crate) fn tell_page_of_reply(alloc: Global, text: &str, given: &[u8], told: 
     let (moment, id) = cut_text(words, ' ');
     let label = Label {
         caller: Caller::Owner,
-        moment: number_of_text(moment, told),
+        moment: moment_with_date(number_of_text(moment, told), told),
         request_id: id_of_digits(id.as_bytes(), told),
         draw: 7,
     };
@@ -82,7 +83,7 @@ fn tell_page_of_fields(
     let fields = message.headers.as_slice();
     let reply = reply_of_fields(alloc, name, fields, &message.body, told);
     let resource = first_value(fields, b"resource");
-    if is_shown_reply(&reply) && label.moment < MOMENT_LIMIT {
+    if is_shown_reply(&reply) {
         tell_page_of_shown_reply(alloc, reply, label, resource, told);
     } else {
         drop(reply);
@@ -100,7 +101,6 @@ fn tell_page_of_shown_reply(
 )
     requires reply { reply ≢ Reply.Memory }
     requires showable { IsShowable reply }
-    requires moment { label.now.moment < moment_limit }
 {
     if let Some(page) = told.keep_made(page(alloc, reply, label, resource)) {
         tell_value(&page, told);
@@ -122,7 +122,10 @@ fn reply_of_fields(
         "refused" => Reply::Refused(code_of_fields(alloc, fields, told)),
         "not-modified" => Reply::NotModified(object_head_of_fields(alloc, fields, told)),
         "object" => object_reply_of_fields(alloc, fields, body, told),
-        "buckets" => Reply::Buckets(items_of_fields(alloc, fields, told)),
+        "buckets" => {
+            let items = items_of_fields(alloc, fields, told);
+            Reply::OfObjects(ObjectsReply::Buckets(items))
+        }
         "objects" => objects_reply_of_fields(alloc, fields, told),
         "uploads" => uploads_reply_of_fields(alloc, fields, told),
         "parts" => parts_reply_of_fields(alloc, fields, told),
@@ -132,47 +135,48 @@ fn reply_of_fields(
 }
 
 fn acl_reply_of_fields(fields: &[Pair], told: &mut Told) -> Reply {
-    Reply::AclOf(acl_of_word(text_in_verb_field(fields, b"acl", told), told))
+    let acl = acl_of_word(text_in_verb_field(fields, b"acl", told), told);
+    Reply::OfObjects(ObjectsReply::AclOf(acl))
 }
 
 fn short_reply_of_fields(alloc: Global, name: &str, fields: &[Pair], told: &mut Told) -> Reply {
     match name {
-        "made" => Reply::Made {
-            bucket: bytes_in_verb_field(alloc, fields, b"bucket", told),
-        },
-        "stored" => Reply::Stored {
-            etag: bytes_in_verb_field(alloc, fields, b"etag", told),
-        },
-        "location" => Reply::Location {
-            region: bytes_in_verb_field(alloc, fields, b"region", told),
-        },
-        "started" => Reply::Started {
+        "made" => {
+            let bucket = bytes_in_verb_field(alloc, fields, b"bucket", told);
+            Reply::OfObjects(ObjectsReply::Made(bucket))
+        }
+        "stored" => Reply::Stored(bytes_in_verb_field(alloc, fields, b"etag", told)),
+        "location" => {
+            let region = bytes_in_verb_field(alloc, fields, b"region", told);
+            Reply::OfObjects(ObjectsReply::Location(region))
+        }
+        "started" => Reply::OfUploads(UploadsReply::Started(StartedUpload {
             bucket: bytes_in_verb_field(alloc, fields, b"bucket", told),
             key: bytes_in_verb_field(alloc, fields, b"key", told),
             id: id_of_digits(first_value(fields, b"id"), told),
-        },
-        "completed" => Reply::Completed {
+        })),
+        "completed" => Reply::OfUploads(UploadsReply::Completed(CompletedObject {
             bucket: bytes_in_verb_field(alloc, fields, b"bucket", told),
             key: bytes_in_verb_field(alloc, fields, b"key", told),
             etag: bytes_in_verb_field(alloc, fields, b"etag", told),
-        },
-        "copied" => Reply::Copied {
+        })),
+        "copied" => Reply::Copied(CopiedBytes {
             part: is_verb_field_yes(fields, b"part"),
             etag: bytes_in_verb_field(alloc, fields, b"etag", told),
             modified: number_in_verb_field(fields, b"modified", told),
-        },
+        }),
         _ => Reply::Memory,
     }
 }
 
 fn object_reply_of_fields(alloc: Global, fields: &[Pair], body: &Bytes, told: &mut Told) -> Reply {
-    Reply::Object {
+    Reply::Object(ObjectBytes {
         head: object_head_of_fields(alloc, fields, told),
         from: number_in_verb_field(fields, b"from", told),
         length: number_in_verb_field(fields, b"length", told),
         partial: is_verb_field_yes(fields, b"partial"),
         body: copy_of_bytes(alloc, body.as_slice(), told),
-    }
+    })
 }
 
 fn object_head_of_fields(alloc: Global, fields: &[Pair], told: &mut Told) -> ObjectHead {
@@ -298,12 +302,12 @@ impl FromWords for PartItem {
 }
 
 fn objects_reply_of_fields(alloc: Global, fields: &[Pair], told: &mut Told) -> Reply {
-    Reply::Objects {
+    Reply::OfObjects(ObjectsReply::Objects(ObjectPage {
         bucket: bytes_in_verb_field(alloc, fields, b"bucket", told),
         asked: asked_of_fields(alloc, fields, told),
         items: items_of_fields(alloc, fields, told),
         truncated: is_verb_field_yes(fields, b"truncated"),
-    }
+    }))
 }
 
 fn item_head_of_words(alloc: Global, words: &Words<'_>, told: &mut Told) -> Option<ItemHead> {
@@ -341,44 +345,49 @@ fn token_of_fields(alloc: Global, fields: &[Pair], told: &mut Told) -> Option<By
 }
 
 fn uploads_reply_of_fields(alloc: Global, fields: &[Pair], told: &mut Told) -> Reply {
-    Reply::Uploads {
+    Reply::OfUploads(UploadsReply::Uploads(UploadPage {
         bucket: bytes_in_verb_field(alloc, fields, b"bucket", told),
-        prefix: bytes_in_verb_field(alloc, fields, b"prefix", told),
-        key_marker: bytes_in_verb_field(alloc, fields, b"key-marker", told),
-        id_marker: bytes_in_verb_field(alloc, fields, b"id-marker", told),
-        max: small_number_in_verb_field(fields, b"max", told),
-        url: is_verb_field_yes(fields, b"url"),
+        asked: UploadsAsked {
+            prefix: bytes_in_verb_field(alloc, fields, b"prefix", told),
+            key_marker: bytes_in_verb_field(alloc, fields, b"key-marker", told),
+            id_marker: bytes_in_verb_field(alloc, fields, b"id-marker", told),
+            max: small_number_in_verb_field(fields, b"max", told),
+            url: is_verb_field_yes(fields, b"url"),
+        },
         items: items_of_fields(alloc, fields, told),
         truncated: is_verb_field_yes(fields, b"truncated"),
-    }
+    }))
 }
 
 fn parts_reply_of_fields(alloc: Global, fields: &[Pair], told: &mut Told) -> Reply {
-    Reply::Parts {
+    Reply::OfUploads(UploadsReply::Parts(PartPage {
         bucket: bytes_in_verb_field(alloc, fields, b"bucket", told),
         key: bytes_in_verb_field(alloc, fields, b"key", told),
         id: id_of_digits(first_value(fields, b"id"), told),
-        marker: small_number_in_verb_field(fields, b"number-marker", told),
-        max: small_number_in_verb_field(fields, b"max", told),
+        asked: PartsAsked {
+            marker: small_number_in_verb_field(fields, b"number-marker", told),
+            max: small_number_in_verb_field(fields, b"max", told),
+        },
         items: items_of_fields(alloc, fields, told),
         truncated: is_verb_field_yes(fields, b"truncated"),
-    }
+    }))
 }
 
 fn deleted_reply_of_fields(alloc: Global, fields: &[Pair], told: &mut Told) -> Reply {
-    Reply::Deleted {
+    Reply::OfObjects(ObjectsReply::Deleted(DeletedKeys {
         keys: keys_of_fields(alloc, fields, told),
         quiet: is_verb_field_yes(fields, b"quiet"),
-    }
+    }))
 }
 
 /// The keys of the fields `key`, in their order.
-fn keys_of_fields(alloc: Global, fields: &[Pair], told: &mut Told) -> List<Bytes> {
+fn keys_of_fields(alloc: Global, fields: &[Pair], told: &mut Told) -> List<Key> {
     let mut keys = List::new(alloc);
     for field in fields {
         if field.name.as_slice() == b"key".as_slice() {
-            let key = copy_of_bytes(alloc, field.value.as_slice(), told);
-            told.push(&mut keys, key);
+            if let Some(key) = told.keep_made(Key::read(alloc, field.value.as_slice())) {
+                told.push(&mut keys, key);
+            }
         }
     }
     keys

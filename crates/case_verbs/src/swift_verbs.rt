@@ -2,8 +2,9 @@
 //! account `a` and token `t`.
 //!
 //! `read-call` tells whether the first request has the token, the call that it spells, and the request that is written for
-//! that call. `read-answer` tells the reply that the bytes behind the first empty line spell, as the answer to the call of the
-//! request before them. `answer-end` tells where the first answer ends, and `answer-end head` where it is one to HEAD.
+//! that call, and `read-call newest` the request that is written where all replicas are asked. `read-answer` tells the reply
+//! that the bytes behind the first empty line spell, as the answer to the call of the request before them. `answer-end` tells
+//! where the first answer ends, and `answer-end head` where it is one to HEAD.
 //! `fits TYPE | PIECE` tells whether a PUT of an object with that content type and that piece of metadata is within the limits,
 //! for what no field of HTTP can have.
 //!

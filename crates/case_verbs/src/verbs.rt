@@ -47,7 +47,7 @@ fn tell_signature_verb(alloc: Global, verb: &str, text: &str, given: &[u8], told
 /// Then calls of Swift.
 fn tell_swift_verb(alloc: Global, verb: &str, text: &str, given: &[u8], told: &mut Told) {
     match verb {
-        "read-call" => wire::tell_read_call(alloc, given, told),
+        "read-call" => wire::tell_read_call(alloc, text, given, told),
         "read-answer" => wire::tell_read_answer(alloc, given, told),
         "answer-end" => wire::tell_answer_end(alloc, text, given, told),
         "fits" => wire::tell_fit_of_put(alloc, text, told),

@@ -1,9 +1,8 @@
 //! The program that the cases try: the top call of `s3gate`.
-use account_calls::Known;
 use case_runs::Program;
 use case_text::{Told, tell_value};
 use gate_base::{List, ListClock, ListDraws, MemLine, MemSink};
-use gateway::{Service, serve_connection};
+use gateway::{Service, World, serve_connection};
 use gateway_cmd::run;
 use planned_swift::MemSwift;
 use s3_machine::Settings;
@@ -39,9 +38,9 @@ impl Program for GatewayProgram {
         told: &mut Told,
     ) {
         let service = Service { settings, keys };
-        let mut known = Known::Unsure;
         let mut draws = ListDraws::new(List::new(alloc));
-        let ended = serve_connection(alloc, store, &mut known, &service, line, clock, &mut draws);
+        let mut lent = World::over(line, store, clock, &mut draws);
+        let ended = serve_connection(alloc, &service, &mut lent);
         tell_value(&ended, told);
     }
 }

@@ -1,11 +1,8 @@
 -- What is given where a message is refused.
-use Rattle.std.proofs.Common.{◌≡◌, ◌≢◌, ℕ, List, Option, Result, Err, IfErr, refl, sym, ap, subst}
+use Rattle.std.proofs.Common.{◌≡◌, ◌≢◌, ℕ, Option, Result, Err, refl, ap}
 use Rattle.gate_base.specs.declared.caller.Caller.{Caller}
-use Rattle.gate_base.specs.declared.page.Pair.{Pair}
-use Rattle.s3_machine.specs.declared.code.Code.{Code}
 use Rattle.http_wire.specs.declared.message.Message.{Message}
 use Rattle.s3_requests.specs.declared.meant.Meant.TheVariants as meant
-use Rattle.s3_requests.specs.Proper.{IsProperCode}
 use Rattle.sigv4.specs.declared.pieces.Seal.{Seal}
 use Rattle.sigv4.specs.declared.refusal.Refusal.{Refusal}
 use Rattle.sigv4.specs.Chunked.{GivesSeal}
@@ -14,10 +11,8 @@ use Rattle.chunked.specs.declared.fault.ChunkedFault.{ChunkedFault}
 use Rattle.chunked.specs.declared.fault.ChunkedFault.TheVariants as chunks
 use Rattle.chunked.specs.declared.form.ChunkedForm.{ChunkedForm}
 use Rattle.chunked.specs.Reading.{Fails}
-use Rattle.extended.specs.Chunks.{announced_length}
 use Rattle.extended.specs.Opened.{Opens, opened_by, opened_for}
 use Rattle.extended.specs.Refused.{refused_by, refused_by_chunks}
-use Rattle.extended.proofs.lemmas.Opened.{announced_proper}
 use Rattle.extended.proofs.lemmas.Refused.{gives_seal_refusal}
 
 -- a head that is refused
@@ -35,7 +30,3 @@ chunks_gives chunks.Memory due fails known = absurd (known refl)
 pub body_refused : (caller : Caller) (message left : Message) (fault : ChunkedFault) (due : Result Decoded ChunkedFault)
     → Fails fault due → Opens (opened_by caller message due) (Err (refused_by_chunks fault)) left
 body_refused caller message left fault due fails = λ known. ap (opened_by caller message) (chunks_gives fault due fails known)
-
--- the code of a length
-pub length_refused : (largest : ℕ) (headers : List Pair) (code : Code) → Err code ≡ announced_length largest headers → IsProperCode code
-length_refused largest headers code is = subst (λ (count : Result ℕ Code). IfErr count IsProperCode) (sym is) (announced_proper largest headers)

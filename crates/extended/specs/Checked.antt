@@ -8,7 +8,10 @@ use Rattle.http_wire.specs.declared.message.Message.{Message}
 use Rattle.s3_machine.specs.declared.code.Code.{Code}
 use Rattle.s3_machine.specs.declared.code.Code.TheVariants.{BadDigest, InvalidRequest, NotImplemented}
 use Rattle.s3_machine.specs.declared.operation.Op.{Op}
-use Rattle.s3_machine.specs.declared.operation.Op.TheVariants as op
+use Rattle.s3_machine.specs.declared.operation.Op.TheVariants.{OnObjects, OnUploads}
+use Rattle.s3_machine.specs.declared.operation.ObjectsOp.TheVariants as objects_op
+use Rattle.s3_machine.specs.declared.operation.UploadsOp.TheVariants as uploads_op
+use Rattle.s3_machine.specs.Ops as op
 use Rattle.s3_machine.specs.declared.operation.Settings.{Settings}
 use Rattle.s3_requests.specs.declared.meant.Meant.{Meant}
 use Rattle.s3_requests.specs.declared.meant.Meant.TheVariants as meant
@@ -61,8 +64,8 @@ first_code bytes (header ∷ headers) = or_code (kind_code (checksum_kind header
 
 -- the bytes that an operation stores, as an object or a part
 unfoldable pub stored_bytes : Op → Option (List ℕ)
-stored_bytes (op.PutObject bucket key acl content_type meta body) = Some body
-stored_bytes (op.UploadPart bucket key id number body) = Some body
+stored_bytes (OnObjects (objects_op.PutObject put)) = Some put.content.body
+stored_bytes (OnUploads (uploads_op.UploadPart part)) = Some part.body
 stored_bytes _ = None
 
 -- what stands against an operation: chunks where it stores no bytes, trailers that aren't those named, a checksum

@@ -6,7 +6,7 @@ ghost use Rattle.extended.specs.Chunks.{announced_length, announced_value, chunk
 use chunked::{ChunkedForm, form_of};
 use gate_base::Pair;
 use http_wire::{first_value, has_header, has_single_header};
-use s3_machine::Code;
+use s3_machine::{Code, Proper};
 use text_forms::number_of;
 
 const PAYLOAD: &[u8] = b"x-amz-content-sha256";
@@ -29,26 +29,26 @@ pub fn chunked_form(headers: &[Pair]) -> Option<ChunkedForm>
 }
 
 /// How many bytes of data the one `x-amz-decoded-content-length` announces, or the code by which the request is refused.
-pub(crate) fn announced_length(largest: u64, headers: &[Pair]) -> Result<u64, Code>
+pub(crate) fn announced_length(largest: u64, headers: &[Pair]) -> Result<u64, Proper<Code>>
     ensures { result ≡ announced_length largest headers.now }
 {
     if !has_header(headers, LENGTH) {
-        return Err(Code::MissingContentLength);
+        return Err(Proper::of(Code::MissingContentLength));
     }
     if !has_single_header(headers, LENGTH) {
-        return Err(Code::InvalidRequest);
+        return Err(Proper::of(Code::InvalidRequest));
     }
     announced_value(largest, number_of(first_value(headers, LENGTH), DIGITS))
 }
 
-fn announced_value(largest: u64, count: Option<u64>) -> Result<u64, Code>
+fn announced_value(largest: u64, count: Option<u64>) -> Result<u64, Proper<Code>>
     ensures { result ≡ announced_value largest count }
 {
     match count {
-        None => Err(Code::InvalidRequest),
+        None => Err(Proper::of(Code::InvalidRequest)),
         Some(count) => {
             if largest < count {
-                Err(Code::EntityTooLarge)
+                Err(Proper::of(Code::EntityTooLarge))
             } else {
                 Ok(count)
             }

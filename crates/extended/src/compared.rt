@@ -5,7 +5,7 @@ ghost use Rattle.checksums.specs.Kinds.{checksum_kind};
 
 use checksums::{Comparison, checksum_kind, compare_checksum};
 use gate_base::{Memory, Pair};
-use s3_machine::Code;
+use s3_machine::{Code, Proper};
 use std::alloc::Global;
 
 /// The code of the first checksum that isn't that of the bytes: BadDigest, or InvalidRequest where it is no checksum of its kind.
@@ -14,7 +14,7 @@ pub(crate) fn first_checksum_code(
     alloc: Global,
     checksums: &[Pair],
     bytes: &[u8],
-) -> Result<Option<Code>, Memory>
+) -> Result<Option<Proper<Code>>, Memory>
     ensures { IfOk result (λ code. code ≡ first_code bytes.now checksums.now) }
 {
     for checksum in checksums {
@@ -26,7 +26,11 @@ pub(crate) fn first_checksum_code(
     Ok(None)
 }
 
-fn checksum_code(alloc: Global, checksum: &Pair, bytes: &[u8]) -> Result<Option<Code>, Memory>
+fn checksum_code(
+    alloc: Global,
+    checksum: &Pair,
+    bytes: &[u8],
+) -> Result<Option<Proper<Code>>, Memory>
     ensures { IfOk result (λ code. code
         ≡ kind_code (checksum_kind checksum.now.name) checksum.now.value bytes.now) }
 {
@@ -39,12 +43,12 @@ fn checksum_code(alloc: Global, checksum: &Pair, bytes: &[u8]) -> Result<Option<
     }
 }
 
-fn comparison_code(comparison: Comparison) -> Option<Code>
+fn comparison_code(comparison: Comparison) -> Option<Proper<Code>>
     ensures { result ≡ comparison_code comparison }
 {
     match comparison {
         Comparison::Same => None,
-        Comparison::Different => Some(Code::BadDigest),
-        Comparison::NotAChecksum => Some(Code::InvalidRequest),
+        Comparison::Different => Some(Proper::of(Code::BadDigest)),
+        Comparison::NotAChecksum => Some(Proper::of(Code::InvalidRequest)),
     }
 }

@@ -16,6 +16,6 @@ mod trailers;
 pub use announced::chunked_form;
 pub use claims::Claims;
 pub use meaning::extended_meaning;
-pub use open::open_chunked;
+pub use open::{ChunkRules, open_chunked};
 pub use refused::refused_by;
 pub use sender::Sender;

@@ -1,7 +1,6 @@
 //! What a message means in the extended profile.
 ghost use Rattle.std.specs.Prelude.{◌≡◌, ◌≢◌};
 ghost use Rattle.s3_requests.specs.Meaning.{KeepsFront, meaning_of};
-ghost use Rattle.s3_requests.specs.Proper.{IsProperMeant};
 ghost use Rattle.s3_requests.specs.declared.meant.Meant.TheVariants as variant;
 ghost use Rattle.extended.specs.Checked.{checked, extended_meaning};
 
@@ -29,7 +28,6 @@ pub fn extended_meaning(
 ) -> Meant
     ensures value { result ≢ variant.Memory
         → result ≡ extended_meaning settings.now message.entry.now target.now sender.now }
-    ensures proper { IsProperMeant result }
     ensures keeps { KeepsFront message.entry.now message.exit.now }
 {
     match claims_of(alloc, message.headers.as_slice(), sender) {
@@ -48,7 +46,6 @@ fn meaning_by_claims(
 ) -> Meant
     ensures value { result ≢ variant.Memory → result ≡ checked claims.now
         (meaning_of settings.now message.entry.now target.now caller.now) }
-    ensures proper { IsProperMeant result }
     ensures keeps { KeepsFront message.entry.now message.exit.now }
 {
     let mut means = meaning(alloc, message, target, caller, settings);

@@ -13,15 +13,15 @@ pub fn refused_by(refusal: Refusal) -> Meant
 {
     match refusal {
         Refusal::HeaderMalformed | Refusal::WrongScope => {
-            Meant::Refused(Code::AuthorizationHeaderMalformed)
+            Meant::refused(Code::AuthorizationHeaderMalformed)
         }
-        Refusal::UnknownKey => Meant::Refused(Code::InvalidAccessKeyId),
-        Refusal::UnsignedHeader | Refusal::NoDate => Meant::Refused(Code::AccessDenied),
-        Refusal::Skewed => Meant::Refused(Code::RequestTimeTooSkewed),
-        Refusal::Streaming => Meant::Refused(Code::NotImplemented),
-        Refusal::NoPayloadHash => Meant::Refused(Code::InvalidRequest),
-        Refusal::SignatureDiffers(_) => Meant::Refused(Code::SignatureDoesNotMatch),
-        Refusal::PayloadDiffers => Meant::Refused(Code::XAmzContentSHA256Mismatch),
+        Refusal::UnknownKey => Meant::refused(Code::InvalidAccessKeyId),
+        Refusal::UnsignedHeader | Refusal::NoDate => Meant::refused(Code::AccessDenied),
+        Refusal::Skewed => Meant::refused(Code::RequestTimeTooSkewed),
+        Refusal::Streaming => Meant::refused(Code::NotImplemented),
+        Refusal::NoPayloadHash => Meant::refused(Code::InvalidRequest),
+        Refusal::SignatureDiffers(_) => Meant::refused(Code::SignatureDoesNotMatch),
+        Refusal::PayloadDiffers => Meant::refused(Code::XAmzContentSHA256Mismatch),
         Refusal::Memory => Meant::Memory,
     }
 }
@@ -31,9 +31,9 @@ pub(crate) fn refused_by_chunks(fault: ChunkedFault) -> Meant
     ensures { result ≡ refused_by_chunks fault }
 {
     match fault {
-        ChunkedFault::IncompleteBody => Meant::Refused(Code::IncompleteBody),
-        ChunkedFault::InvalidRequest => Meant::Refused(Code::InvalidRequest),
-        ChunkedFault::SignatureDiffers => Meant::Refused(Code::SignatureDoesNotMatch),
+        ChunkedFault::IncompleteBody => Meant::refused(Code::IncompleteBody),
+        ChunkedFault::InvalidRequest => Meant::refused(Code::InvalidRequest),
+        ChunkedFault::SignatureDiffers => Meant::refused(Code::SignatureDoesNotMatch),
         ChunkedFault::Memory => Meant::Memory,
     }
 }

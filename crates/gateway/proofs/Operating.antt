@@ -5,8 +5,12 @@ use Rattle.gate_base.specs.Causes.{Rose}
 use Rattle.s3_machine.specs.declared.code.Code.TheVariants.{ServiceUnavailable}
 use Rattle.s3_machine.specs.declared.operation.Label.{Label}
 use Rattle.s3_machine.specs.declared.operation.Settings.{Settings}
+use Rattle.s3_machine.specs.declared.operation.CopiesOp.{CopiesOp}
+use Rattle.s3_machine.specs.declared.operation.ObjectsOp.{ObjectsOp}
+use Rattle.s3_machine.specs.declared.operation.UploadsOp.{UploadsOp}
 use Rattle.s3_machine.specs.declared.operation.Op.{Op}
-use Rattle.s3_machine.specs.declared.operation.Op.TheVariants.{GetObject}
+use Rattle.s3_machine.specs.declared.operation.Op.TheVariants as op_as
+use Rattle.s3_machine.specs.Ops.{GetObject}
 use Rattle.s3_machine.specs.declared.operation.Reply.{Reply}
 use Rattle.s3_machine.specs.declared.operation.Reply.TheVariants as answer
 use Rattle.s3_machine.specs.Shown.{IsShowable}
@@ -16,7 +20,7 @@ use Rattle.upload_records.specs.Native.{IsSettled}
 use Rattle.account_calls.specs.declared.state.Known.{Known}
 use Rattle.account_calls.specs.declared.state.Known.TheVariants as known
 use Rattle.account_calls.specs.Refusals.{IsWithinShown, most_refused}
-use Rattle.account_calls.specs.Answers.{is_upload, is_many, most_calls, most_settling}
+use Rattle.account_calls.specs.Answers.{most_calls, most_settling}
 use Rattle.account_calls.specs.Calls.{Bound, always, by_account, amount, IsWithin, GoesOn, Met, Keeps, Any}
 use Rattle.account_calls.specs.Fault.{CausesFault}
 use Rattle.account_calls.specs.Stutters.{Stutters, LastFailed}
@@ -227,11 +231,14 @@ ready_of settings op label old new was now (Pieces found) known (is, reads) = (
 
 -- ---- the bytes that a read asks for are still to be got
 
-pub reads_no_upload : (op : Op) → ReadsBytes op → is_upload op ≡ true → ⊥
-reads_no_upload op (bucket, key, range, conditions, is) not = let no : false ≡ true = sym (ap is_upload is) ∙ not in cc
+pub objects_read_none : {op : Op} {asked : ObjectsOp} → op ≡ op_as.OnObjects asked → ReadsBytes op → ⊥
+objects_read_none {asked = asked} is (bucket, key, range, conditions, reads) = let no : op_as.OnObjects asked ≡ GetObject bucket key range conditions = sym is ∙ reads in cc
 
-pub reads_no_many : (op : Op) → ReadsBytes op → is_many op ≡ true → ⊥
-reads_no_many op (bucket, key, range, conditions, is) not = let no : false ≡ true = sym (ap is_many is) ∙ not in cc
+pub uploads_read_none : {op : Op} {asked : UploadsOp} → op ≡ op_as.OnUploads asked → ReadsBytes op → ⊥
+uploads_read_none {asked = asked} is (bucket, key, range, conditions, reads) = let no : op_as.OnUploads asked ≡ GetObject bucket key range conditions = sym is ∙ reads in cc
+
+pub copies_read_none : {op : Op} {asked : CopiesOp} → op ≡ op_as.OnCopies asked → ReadsBytes op → ⊥
+copies_read_none {asked = asked} is (bucket, key, range, conditions, reads) = let no : op_as.OnCopies asked ≡ GetObject bucket key range conditions = sym is ∙ reads in cc
 
 pub asks_reads : (means : Meant) (op : Op) → means ≡ meant.Op op → AsksBytes means → ReadsBytes op
 asks_reads means op is (bucket, key, range, conditions, asks) = (bucket, key, range, conditions, let same : meant.Op op ≡ meant.Op (GetObject bucket key range conditions) = sym is ∙ asks in cc)

@@ -20,7 +20,8 @@ use Rattle.account_calls.proofs.lemmas.Idle.{none_made}
 use Rattle.s3_requests.specs.declared.meant.Meant.{Meant}
 use Rattle.s3_requests.specs.declared.meant.Meant.TheVariants as meant
 use Rattle.gateway.specs.ResolvedRequest.{Understands}
-use Rattle.s3_requests.specs.Proper.{IsProperCode, IsProperMeant}
+use Rattle.s3_machine.specs.Proper.{IsProperCode}
+use Rattle.s3_requests.specs.Proper.{IsProperMeant}
 use Rattle.gateway.specs.Request.{Request}
 use Rattle.gateway.specs.Connection.{sent_by}
 use Rattle.gateway.specs.Exchange.{Asked, asked_by, store_cursor, Span, IsSpan, Performs, unsettled, answered, refused, performed, refused_any, performed_any, RepliesBy, RepliesExpected, Where, IsCaused, Operated}

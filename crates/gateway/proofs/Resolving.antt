@@ -40,8 +40,9 @@ use Rattle.extended.proofs.lemmas.Opened.{opened_known, opened_proper}
 use Rattle.extended.proofs.lemmas.Refused.{known_if, refusal_known, gives_refusal, refused_proper}
 use Rattle.gateway.specs.Request.{raw_path, end_after, refused_by_query, admitted, asked_target, as_sent, caller_or_anonymous, caller_of, Verdict, Opening, by_header, by_query, opening_at, opening_by, sent_meaning, taken_form, verdict_at, Verifies, resolve_target, request_of, refused_request, code_of}
 use Rattle.gateway.specs.ResolvedRequest.{Is}
-use Rattle.s3_requests.specs.Proper.{IsProperCode, IsProperMeant}
-use Rattle.s3_requests.proofs.lemmas.Proper.{is_store_fault, proper_code, meaning_known, meaning_proper}
+use Rattle.s3_machine.specs.Proper.{IsProperCode, is_store_fault}
+use Rattle.s3_requests.specs.Proper.{IsProperMeant}
+use Rattle.s3_requests.proofs.lemmas.Proper.{meaning_known, meaning_proper}
 
 -- ---- signatures
 
@@ -145,13 +146,13 @@ pub query_verifies : (refusal : QueryRefusal) (due : Result Caller QueryRefusal)
 query_verifies refusal due gives = λ known. ap by_query (query_gives refusal due gives known)
 
 pub query_proper : (refusal : QueryRefusal) → IsProperMeant (refused_by_query refusal)
-query_proper url.QueryMalformed = proper_code AuthorizationQueryParametersError refl
-query_proper url.UnknownKey = proper_code InvalidAccessKeyId refl
-query_proper url.WrongScope = proper_code AuthorizationQueryParametersError refl
-query_proper url.UnsignedHeader = proper_code AccessDenied refl
-query_proper url.Streaming = proper_code NotImplemented refl
-query_proper url.OutOfTime = proper_code AccessDenied refl
-query_proper (url.SignatureDiffers hash) = proper_code SignatureDoesNotMatch refl
+query_proper url.QueryMalformed = refl
+query_proper url.UnknownKey = refl
+query_proper url.WrongScope = refl
+query_proper url.UnsignedHeader = refl
+query_proper url.Streaming = refl
+query_proper url.OutOfTime = refl
+query_proper (url.SignatureDiffers hash) = refl
 query_proper url.Memory = tt
 
 -- ---- messages
@@ -240,7 +241,7 @@ admitted_proper settings target (Err means) proper = proper
 
 resolve_target_proper : (service : Service) (moment : ℕ) (message : Message) (read : Result Target NameFault) → IsProperMeant (resolve_target service moment message read)
 resolve_target_proper service moment message (Ok target) = admitted_proper service.settings target (opening_at service moment message target) (opening_by_proper (taken_form service.settings message target) service moment message target)
-resolve_target_proper service moment message (Err fault) = proper_code InvalidURI refl
+resolve_target_proper service moment message (Err fault) = refl
 
 pub message_is : (resolved : ResolvedRequest) (service : Service) (moment : ℕ) (message : Message)
     → (resolved.means ≢ Memory → resolved.caller ≡ caller_of service moment message (target_of message.target))
@@ -271,7 +272,7 @@ own_code Transfer = refl
 own_code ShortBody = refl
 
 pub code_is_proper : (kind : Kind) → IsProperCode (code_of kind)
-code_is_proper kind = proper_code (code_of kind) (own_code kind)
+code_is_proper kind = own_code kind
 
 -- a request that was refused before it was understood
 pub refused_is : (resolved : ResolvedRequest) (kind : Kind) (place : ℕ) (head : Bool) → resolved.caller ≡ Anonymous → resolved.method.now ≡ cond head (codes "HEAD") [] → resolved.resource.now ≡ codes "/"

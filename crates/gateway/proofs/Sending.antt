@@ -11,7 +11,7 @@ use Rattle.http_wire.specs.Print.{memory_reply}
 use Rattle.s3_machine.specs.declared.code.Code.TheVariants.{ServiceUnavailable}
 use Rattle.s3_machine.specs.declared.operation.Label.{Label}
 use Rattle.s3_machine.specs.declared.operation.Op.{Op}
-use Rattle.s3_machine.specs.declared.operation.Op.TheVariants.{GetObject}
+use Rattle.s3_machine.specs.Ops.{GetObject}
 use Rattle.s3_machine.specs.declared.operation.Reply.{Reply}
 use Rattle.s3_machine.specs.declared.operation.Reply.TheVariants as answer
 use Rattle.s3_machine.specs.declared.operation.Settings.{Settings}
@@ -297,11 +297,16 @@ broken_by found fault.Failed p q before then now ordered near same counts cause 
 broken_by found fault.Memory p q before then now ordered near same counts cause = (ordered, near, cause ∙ same)
 broken_by found fault.Inconsistent p q before then now ordered near same counts cause = (counts, cause ∙ same)
 
+-- the bytes of an object that a reply shows
+abbrev body_of : Reply → List ℕ
+body_of (answer.Object object) = object.body
+body_of reply = []
+
 -- an object was sent as its bytes came
 is_paced : (connection t q : ℕ) (means : Meant) (found : Found) (head body bytes : List ℕ) (sent sent' : List Piece) → bytes ≡ head ++ body → SendsPieces connection t q head body sent sent'
     → ReadIsPaced connection t q means (found_reply found body) bytes sent sent'
 is_paced connection t q means found head body bytes sent sent' whole sends body' asks (head', from, length, partial, has) =
-    let same : body ≡ body' = cc in
+    let same : body ≡ body' = ap body_of has in
     (head, whole ∙ ap (λ b. head ++ b) same, subst (λ b. SendsPieces connection t q head b sent sent') same sends)
 
 module _ {settings : Settings} {op : Op} {label : Label} {found : Found} {old here : History} {was : Known} (all : Bool) (request : Request) (means : request.means ≡ meant.Op op)

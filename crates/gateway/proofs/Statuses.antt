@@ -1,11 +1,15 @@
 -- The statuses of the pages of replies.
+use Rattle.s3_machine.specs.declared.operation.Reply.TheVariants.{OfObjects, OfUploads}
+use Rattle.s3_machine.specs.declared.operation.Reply.TheVariants as reply_as
+use Rattle.s3_machine.specs.declared.operation.ObjectsReply.TheVariants as objects_reply
+use Rattle.s3_machine.specs.declared.operation.UploadsReply.TheVariants as uploads_reply
 use Rattle.std.proofs.Common.{ℕ, Bool, true, false, List, refl}
 use Rattle.s3_machine.specs.declared.code.Code.{Code}
 use Rattle.s3_machine.specs.declared.code.Code.TheVariants.{AccessDenied, AuthorizationHeaderMalformed, AuthorizationQueryParametersError, BadDigest, BucketAlreadyOwnedByYou, BucketNotEmpty, EntityTooLarge, EntityTooSmall, IncompleteBody, InconsistentStore, InvalidAccessKeyId, InvalidArgument, InvalidBucketName, InvalidDigest, InvalidPart, InvalidPartOrder, InvalidRange, InvalidRequest, InvalidStorageClass, InvalidURI, KeyTooLongError, MalformedXML, MetadataTooLarge, MethodNotAllowed, MissingContentLength, NoSuchBucket, NoSuchKey, NoSuchUpload, NotImplemented, PreconditionFailed, RequestTimeTooSkewed, ServiceUnavailable, SignatureDoesNotMatch, XAmzContentSHA256Mismatch}
 use Rattle.s3_machine.specs.declared.operation.Label.{Label}
 use Rattle.s3_machine.specs.declared.operation.Reply.{Reply}
-use Rattle.s3_machine.specs.declared.operation.Reply.TheVariants.{Refused, Memory, Done, Gone, NotModified, Buckets, Made, Location, AclOf, Objects}
-use Rattle.s3_machine.specs.declared.operation.Reply.TheVariants.{Uploads, Stored, Object, Started, Parts, Completed, Deleted, Copied}
+use Rattle.s3_machine.specs.declared.operation.Reply.TheVariants.{Refused, Memory, Done, Gone, NotModified}
+use Rattle.s3_machine.specs.declared.operation.Reply.TheVariants.{Stored}
 use Rattle.http_wire.specs.Print.{IsReplyStatus}
 use Rattle.s3_pages.specs.Pages.{page_of, read_status}
 use Rattle.s3_pages.specs.Codes.{status_of}
@@ -57,16 +61,16 @@ reply_status Memory label resource = refl
 reply_status Done label resource = refl
 reply_status Gone label resource = refl
 reply_status (NotModified head) label resource = refl
-reply_status (Buckets items) label resource = refl
-reply_status (Made bucket) label resource = refl
-reply_status (Location region) label resource = refl
-reply_status (AclOf acl) label resource = refl
-reply_status (Objects bucket asked items truncated) label resource = refl
-reply_status (Uploads bucket prefix key_marker id_marker max url items truncated) label resource = refl
+reply_status (OfObjects (objects_reply.Buckets items)) label resource = refl
+reply_status (OfObjects (objects_reply.Made bucket)) label resource = refl
+reply_status (OfObjects (objects_reply.Location region)) label resource = refl
+reply_status (OfObjects (objects_reply.AclOf acl)) label resource = refl
+reply_status (OfObjects (objects_reply.Objects page)) label resource = refl
+reply_status (OfUploads (uploads_reply.Uploads page)) label resource = refl
 reply_status (Stored etag) label resource = refl
-reply_status (Object head from length partial body) label resource = object_status partial
-reply_status (Started bucket key id) label resource = refl
-reply_status (Parts bucket key id marker max items truncated) label resource = refl
-reply_status (Completed bucket key etag) label resource = refl
-reply_status (Deleted keys quiet) label resource = refl
-reply_status (Copied part etag modified) label resource = refl
+reply_status (reply_as.Object object) label resource = object_status object.partial
+reply_status (OfUploads (uploads_reply.Started started)) label resource = refl
+reply_status (OfUploads (uploads_reply.Parts page)) label resource = refl
+reply_status (OfUploads (uploads_reply.Completed completed)) label resource = refl
+reply_status (OfObjects (objects_reply.Deleted deleted)) label resource = refl
+reply_status (reply_as.Copied copied) label resource = refl

@@ -7,12 +7,14 @@ use Rattle.s3_machine.specs.declared.code.Code.TheVariants.{ServiceUnavailable, 
 use Rattle.s3_machine.specs.declared.operation.Label.{Label}
 use Rattle.s3_machine.specs.declared.operation.Settings.{Settings}
 use Rattle.s3_machine.specs.declared.operation.Op.{Op}
-use Rattle.s3_machine.specs.declared.operation.Op.TheVariants as op
+use Rattle.s3_machine.specs.declared.operation.Op.TheVariants as op_as
+use Rattle.s3_machine.specs.Ops as op
 use Rattle.s3_machine.specs.declared.operation.Reply.{Reply}
 use Rattle.s3_machine.specs.declared.operation.ObjectHead.{ObjectHead}
 use Rattle.s3_machine.specs.declared.reading.Conditions.{Conditions}
 use Rattle.s3_machine.specs.declared.reading.Range.{Range}
-use Rattle.s3_machine.specs.declared.operation.Reply.TheVariants.{Refused, Memory, Object}
+use Rattle.s3_machine.specs.declared.operation.Reply.TheVariants.{Refused, Memory}
+use Rattle.s3_machine.specs.Replies.{Object}
 use Rattle.s3_machine.specs.Shown.{IsShowable}
 use Rattle.swift_calls.specs.History.{History, budget, present}
 use Rattle.upload_records.specs.Native.{IsSettled}
@@ -32,7 +34,7 @@ use Rattle.gateway.specs.declared.ended.Ended.TheVariants as ended
 use Rattle.s3_requests.specs.declared.meant.Meant.{Meant}
 use Rattle.s3_requests.specs.declared.meant.Meant.TheVariants as meant
 use Rattle.gateway.specs.Request.{Request, print}
-use Rattle.s3_requests.specs.Proper.{IsProperCode}
+use Rattle.s3_machine.specs.Proper.{IsProperCode}
 
 -- ---- between two requests
 
@@ -276,8 +278,8 @@ IsBrokenBy ended.Memory p q faults faults' = (p ≤ q) × (q ≤ p + 1) × (faul
 
 -- the request reads an object, and where the store was found inconsistent, that is what the end names
 abbrev pub ReadsObject : Meant → Ended → Type 0
-ReadsObject (meant.Op (op.GetObject bucket key range conditions)) (ended.Inconsistent container name) = (container ≡ bucket) × (name ≡ key)
-ReadsObject (meant.Op (op.GetObject bucket key range conditions)) end = Unit {0}
+ReadsObject (meant.Op (op_as.GetObject read)) (ended.Inconsistent container name) = (container ≡ read.bucket) × (name ≡ read.key)
+ReadsObject (meant.Op (op_as.GetObject read)) end = Unit {0}
 ReadsObject means end = ⊥
 
 -- a read was answered whose head was sent, and of its body not all: then the store failed, or was found inconsistent, or memory

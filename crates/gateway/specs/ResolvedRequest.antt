@@ -6,8 +6,7 @@ use Rattle.s3_requests.specs.declared.meant.Meant.TheVariants.{Memory}
 use Rattle.s3_requests.specs.Proper.{IsProperMeant}
 use Rattle.gateway.specs.Request.{Request}
 
--- what was understood is what the request means, unless memory ran out; and the request means an operation within the
--- limits, or a proper code
+-- what was understood is what the request means, unless memory ran out; and the request means an operation, or a proper code
 pub record Understands (means : Meant) (request : Request) : Type 0 where
   pub meant : request.means ≢ Memory
   pub proper : IsProperMeant request.means

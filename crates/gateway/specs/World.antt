@@ -1,5 +1,5 @@
 -- What is lent to a function that serves requests, and what becomes of it. Source: this profile.
-use Rattle.std.specs.Prelude.{Bool, IsTrue, ◌++◌}
+use Rattle.std.specs.Prelude.{◌≡◌, Bool, IsTrue, ◌++◌}
 use Rattle.gate_base.specs.Line.{LineModel}
 use Rattle.gate_base.specs.Told.{SourceModel}
 use Rattle.http_wire.specs.Reading.{Pending}
@@ -11,6 +11,7 @@ use Rattle.account_calls.specs.Known.{IsKnown, Knows}
 use Rattle.gateway.specs.Exchange.{ReplyRelation, store_cursor, RepliesBy, Where}
 use Rattle.gateway.specs.Connection.{Progress, ConnectionCursor, progress, cursor}
 use Rattle.gateway.specs.Stands.{Stands}
+use Rattle.gateway.specs.declared.world.World.{World as Lent}
 
 -- the line, the store with what is known of it, the clock, and the source of draws
 pub record World : Type 0 where
@@ -22,6 +23,36 @@ pub record World : Type 0 where
 
 abbrev pub world : LineModel → History → Known → SourceModel → SourceModel → World
 world line store known clock draws = record { line = line; store = store; known = known; clock = clock; draws = draws }
+
+-- the same, by what is known of the store
+abbrev pub world_known : LineModel → History → SourceModel → SourceModel → Known → World
+world_known line store clock draws known = world line store known clock draws
+
+-- the same of what is lent, by what each of it shows
+abbrev pub world_in : {N W C D : Type 0} → (N → LineModel) → (W → History) → (C → SourceModel) → (D → SourceModel) → Lent N W C D → World
+world_in line store clock draws lent = world (line lent.line.now) (store lent.store.now) lent.known (clock lent.clock.now) (draws lent.draws.now)
+
+-- the same with something else known of the store
+abbrev pub world_as : {N W C D : Type 0} → (N → LineModel) → (W → History) → (C → SourceModel) → (D → SourceModel) → Lent N W C D → Known → World
+world_as line store clock draws lent known = world (line lent.line.now) (store lent.store.now) known (clock lent.clock.now) (draws lent.draws.now)
+
+-- what is lent is the same line, store, clock and source of draws
+pub record StaysLent {N W C D : Type 0} (old new : Lent N W C D) : Type 0 where
+  pub line : new.line.ghost_name ≡ old.line.ghost_name
+  pub store : new.store.ghost_name ≡ old.store.ghost_name
+  pub clock : new.clock.ghost_name ≡ old.clock.ghost_name
+  pub draws : new.draws.ghost_name ≡ old.draws.ghost_name
+
+-- and only the line and the store may have changed
+pub record SendsOver {N W C D : Type 0} (old new : Lent N W C D) : Type 0 where
+  pub stays : StaysLent old new
+  pub known : new.known ≡ old.known
+  pub clock : new.clock.now ≡ old.clock.now
+  pub draws : new.draws.now ≡ old.draws.now
+
+-- and nothing of it has changed
+abbrev pub IsUntouched : {N W C D : Type 0} → Lent N W C D → Lent N W C D → Type 0
+IsUntouched old new = (new.line.now ≡ old.line.now) × (new.store.now ≡ old.store.now) × (new.clock.now ≡ old.clock.now) × (new.draws.now ≡ old.draws.now)
 
 -- line, clock and source of draws are observable. Whether the store is too is asked apart, by `Met`
 pub record IsObservable (w : World) : Type 0 where

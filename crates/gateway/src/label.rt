@@ -25,5 +25,10 @@ pub fn next_label<C: Clock, D: Draws>(clock: &mut C, draws: &mut D) -> Label
 pub fn sent_by(caller: Caller, label: Label) -> Label
     ensures { result ≡ sent_by caller label }
 {
-    Label { caller, ..label }
+    Label {
+        caller,
+        moment: label.moment,
+        request_id: label.request_id,
+        draw: label.draw,
+    }
 }

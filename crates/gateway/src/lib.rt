@@ -11,6 +11,7 @@ mod resolved;
 mod send;
 mod serve;
 mod service;
+mod world;
 mod write;
 
 pub use ended::Ended;
@@ -21,4 +22,5 @@ pub use laws::{
 pub use resolved::ResolvedRequest;
 pub use serve::serve_connection;
 pub use service::Service;
-pub use write::print_reply;
+pub use world::World;
+pub use write::{ReplyContext, print_reply};

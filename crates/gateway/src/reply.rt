@@ -1,20 +1,17 @@
 ghost use Rattle.std.specs.Prelude.{◌≡◌, ◌<◌, Err, IsTrue};
-ghost use Rattle.gate_base.specs.Told.{moment_limit};
-ghost use Rattle.s3_machine.specs.Step.{IsProper};
 ghost use Rattle.swift_calls.specs.History.{present};
 ghost use Rattle.upload_records.specs.Native.{IsSettled};
 ghost use Rattle.account_calls.specs.Lent.{Stays};
 ghost use Rattle.account_calls.specs.Known.{Knows};
 ghost use Rattle.account_calls.specs.Plan.{reply_of};
 ghost use Rattle.recovery.specs.Settling.{Settles, settle_fault};
-ghost use Rattle.s3_requests.specs.Proper.{IsProperMeant};
 ghost use Rattle.planner.specs.Reading.{HasNoByte, LeavesBytes, ReadsBytes};
 ghost use Rattle.gateway.specs.Exchange.{AsksBytes};
 ghost use Rattle.gateway.specs.Reading.{PerformsOrFinds, IsReady, OperatedOrReads, RepliedOrReads};
 
-use account_calls::{Known, PlansOf, Settled, plans_of};
+use account_calls::{Known, Settled};
 use gate_base::drop;
-use planner::Reading;
+use planner::{Reading, find_object};
 use recovery::{SettleFault, Unsure};
 use s3_machine::{Code, Label, Op, Reply, Settings};
 use s3_requests::Meant;
@@ -38,8 +35,6 @@ pub fn reply_to<W: Swift>(
     means: Meant,
     label: &Label,
 ) -> Reading
-    requires proper { IsProperMeant means }
-    requires moment { label.now.moment < moment_limit }
     requires knows { Knows known.old (W.history store.old) }
     ensures ready { IsReady (W.history store.new) result }
     ensures replied { RepliedOrReads settings.now means label.now (W.history store.old)
@@ -50,7 +45,7 @@ pub fn reply_to<W: Swift>(
 {
     match means {
         Meant::Op(op) => settle_and_perform(alloc, store, known, settings, op, label),
-        Meant::Refused(code) => Reading::Whole(Reply::Refused(code)),
+        Meant::Refused(code) => Reading::Whole(Reply::Refused(code.into_value())),
         Meant::Memory => Reading::Whole(Reply::Memory),
     }
 }
@@ -65,7 +60,6 @@ fn settle_and_perform<W: Swift>(
     op: Op,
     label: &Label,
 ) -> Reading
-    requires proper { IsProper op label.now }
     requires knows { Knows known.old (W.history store.old) }
     ensures operated { OperatedOrReads settings.now op label.now (W.history store.old)
         (W.history store.new) known.old known.new result }
@@ -104,7 +98,6 @@ fn perform_on_settled_store<W: Swift>(
     op: Op,
     label: &Label,
 ) -> Performed
-    requires proper { IsProper op label.now }
     requires settled { IsTrue (W.history store.old).observable
         → IsSettled (present (W.history store.old)) }
     ensures performs { PerformsOrFinds (W.history store.old) (W.history store.new) settings.now op
@@ -112,13 +105,12 @@ fn perform_on_settled_store<W: Swift>(
     ensures leaves { ReadsBytes op → LeavesBytes result.reading }
     ensures bodiless { HasNoByte result.reading }
 {
-    let mut state = Settled::hold(store, settings);
-    perform(alloc, &mut state, op, label)
+    let mut state = Settled::hold(alloc, store, settings);
+    perform(&mut state, op, label)
 }
 
 /// The same, of the store as it is held.
-fn perform<W: Swift>(alloc: Global, state: &mut Settled<'_, W>, op: Op, label: &Label) -> Performed
-    requires { IsProper op label.now }
+fn perform<W: Swift>(state: &mut Settled<'_, W>, op: Op, label: &Label) -> Performed
     ensures stays { Stays state.old state.new }
     ensures performs { PerformsOrFinds (W.history state.old.store.now)
         (W.history state.new.store.now) state.old.settings.now op label.now result.known
@@ -126,20 +118,24 @@ fn perform<W: Swift>(alloc: Global, state: &mut Settled<'_, W>, op: Op, label: &
     ensures leaves { ReadsBytes op → LeavesBytes result.reading }
     ensures bodiless { HasNoByte result.reading }
 {
-    match plans_of(&op) {
-        PlansOf::One => Performed {
-            reading: planner::answer(alloc, state, op, label),
+    match op {
+        Op::GetObject(read) => Performed {
+            reading: find_object(state, read, label),
             known: Known::Settled,
         },
-        PlansOf::Uploads => {
-            let replied = plan_uploads::answer(alloc, state, op, label);
+        Op::OnObjects(op) => Performed {
+            reading: Reading::Whole(planner::answer(state, op, label)),
+            known: Known::Settled,
+        },
+        Op::OnUploads(op) => {
+            let replied = plan_uploads::answer(state, op, label);
             Performed {
                 reading: Reading::Whole(replied.reply),
                 known: replied.known,
             }
         }
-        PlansOf::Many => Performed {
-            reading: Reading::Whole(many_keys::answer(alloc, state, op, label)),
+        Op::OnCopies(op) => Performed {
+            reading: Reading::Whole(many_keys::answer(state, op, label)),
             known: Known::Settled,
         },
     }

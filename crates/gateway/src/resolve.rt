@@ -1,5 +1,5 @@
 //! How a request is resolved: a message that was read, or one that was refused before it was understood.
-ghost use Rattle.std.specs.Prelude.{◌≡◌, ◌≢◌, false, cond, codes, [], Some, position, IfSome, IfOk, IfErr, ◌<◌, length, true};
+ghost use Rattle.std.specs.Prelude.{◌≡◌, ◌≢◌, false, cond, codes, [], Some, position, IfSome, IfOk, ◌<◌, length, true};
 ghost use Rattle.gate_base.specs.declared.caller.Caller.TheVariants.{Anonymous as anonymous};
 ghost use Rattle.s3_names.specs.Target.{target_of};
 ghost use Rattle.s3_requests.specs.Meaning.{KeepsFront};
@@ -8,15 +8,15 @@ ghost use Rattle.sigv4.specs.Verdict.{caller_or_refusal};
 ghost use Rattle.presign.specs.Parameters.{is_presigned};
 ghost use Rattle.presign.specs.Verdict.{owner_or_refusal};
 ghost use Rattle.gateway.specs.ResolvedRequest.{Is};
-ghost use Rattle.s3_requests.specs.Proper.{IsProperMeant};
 ghost use Rattle.gateway.specs.Request.{raw_path, end_after, resolve_target, admitted, asked_target, as_sent, caller_of, caller_or_anonymous, by_header, by_query, opening_at, sent_meaning, taken_form, verdict_at, Verifies, refused_by_query, request_of, refused_request, asks_of, end_of, code_of, is_question_mark};
+ghost use Rattle.s3_machine.specs.Proper.{IsProperCode};
 ghost use Rattle.gateway.specs.Serving.{is_failed_step};
 ghost use Rattle.gateway.specs.declared.ended.Ended.TheVariants as ended;
 ghost use Rattle.s3_requests.specs.declared.meant.Meant.TheVariants as variant;
 
 use crate::{Ended, ResolvedRequest, Service};
 use chunked::ChunkedForm;
-use extended::{Sender, chunked_form, extended_meaning, open_chunked, refused_by};
+use extended::{ChunkRules, Sender, chunked_form, extended_meaning, open_chunked, refused_by};
 use gate_base::{Caller, Memory};
 use http_service::Received;
 use http_wire::{Kind, Message, closes};
@@ -24,7 +24,7 @@ use presign::{QueryRefusal, is_presigned, verify_query, without_signature};
 use s3_machine::{Code, Settings};
 use s3_names::{NameFault, Target};
 use s3_requests::{Meant, meaning};
-use sigv4::verify;
+use sigv4::{SignedRequest, verify};
 use std::alloc::Global;
 
 /// What was received, as it is answered at that moment. A body moves into its operation.
@@ -34,7 +34,6 @@ pub fn resolve<'a>(
     received: &'a mut Received,
     moment: u64,
 ) -> ResolvedRequest<'a>
-    ensures proper { IsProperMeant result.means }
     ensures ends { result.end ≡ end_of received.old }
     ensures served { is_failed_step result.end ≡ false }
     ensures is { Is result (asks_of service.now received.old moment) }
@@ -52,7 +51,6 @@ fn resolve_message<'a>(
     message: &'a mut Message,
     moment: u64,
 ) -> ResolvedRequest<'a>
-    ensures proper { IsProperMeant result.means }
     ensures ends { result.end ≡ end_after message.entry.now }
     ensures served { is_failed_step result.end ≡ false }
     ensures is { Is result (request_of service.now moment message.entry.now) }
@@ -76,12 +74,13 @@ struct Understood {
 }
 
 fn refused(code: Code) -> Understood
+    requires { IsProperCode code }
     ensures means { result.means ≡ variant.Refused code }
     ensures caller { result.caller ≡ anonymous }
 {
     Understood {
         caller: Caller::Anonymous,
-        means: Meant::Refused(code),
+        means: Meant::refused(code),
     }
 }
 
@@ -101,7 +100,6 @@ fn resolve_target_and_meaning(
     message: &mut Message,
     moment: u64,
 ) -> Understood
-    ensures proper { IsProperMeant result.means }
     ensures means { result.means ≢ variant.Memory
         → result.means ≡ resolve_target service.now moment message.entry.now
         (target_of message.entry.now.target) }
@@ -132,7 +130,6 @@ fn verify_and_understand(
     target: Target,
     moment: u64,
 ) -> Understood
-    ensures proper { IsProperMeant result.means }
     ensures means { result.means ≢ variant.Memory → result.means ≡ admitted service.now.settings target
         (opening_at service.now moment message.entry.now target) }
     ensures caller { result.means ≢ variant.Memory → result.caller ≡ caller_or_anonymous
@@ -161,7 +158,6 @@ fn meaning_for_sender(
 ) -> Meant
     ensures value { result ≢ variant.Memory
         → result ≡ sent_meaning settings.now message.entry.now (asked_target target) sender.now }
-    ensures proper { IsProperMeant result }
     ensures keeps { KeepsFront message.entry.now message.exit.now }
 {
     match asked_target(alloc, target) {
@@ -179,7 +175,6 @@ fn sent_meaning(
 ) -> Meant
     ensures value { result ≢ variant.Memory
         → result ≡ sent_meaning settings.now message.entry.now target.now sender.now }
-    ensures proper { IsProperMeant result }
     ensures keeps { KeepsFront message.entry.now message.exit.now }
 {
     if settings.extended {
@@ -209,24 +204,17 @@ fn sender_of(
     moment: u64,
 ) -> Result<Sender, Meant>
     ensures opens { Opens (opening_at service.now moment message.entry.now target.now) result message.exit.now }
-    ensures proper { IfErr result IsProperMeant }
     ensures keeps { KeepsFront message.entry.now message.exit.now }
 {
     let settings = &service.settings;
     match taken_form(settings, message, target) {
         Some(form) => {
-            let region = settings.region.as_slice();
-            let largest = settings.body_limit();
-            open_chunked(
-                alloc,
-                &service.keys,
-                region,
-                largest,
-                form,
-                message,
-                target,
-                moment,
-            )
+            let by = ChunkRules {
+                keys: &service.keys,
+                region: settings.region.as_slice(),
+                largest: settings.body_limit(),
+            };
+            open_chunked(alloc, &by, form, message, target, moment)
         }
         None => unchunked_sender_of(alloc, service, message, target, moment),
     }
@@ -253,7 +241,6 @@ fn unchunked_sender_of(
 ) -> Result<Sender, Meant>
     ensures opens { Opens (as_sent message.now (verdict_at service.now moment message.now target.now))
         result message.now }
-    ensures proper { IfErr result IsProperMeant }
 {
     match verified_caller(alloc, service, message, target, moment) {
         Ok(caller) => Ok(Sender::unchunked(alloc, caller)),
@@ -272,7 +259,6 @@ fn verified_caller(
     moment: u64,
 ) -> Result<Caller, Meant>
     ensures verdict { Verifies (verdict_at service.now moment message.now target.now) result }
-    ensures proper { IfErr result IsProperMeant }
 {
     if is_presigned(target) {
         verified_caller_by_query(alloc, service, message, target, moment)
@@ -281,7 +267,7 @@ fn verified_caller(
     }
 }
 
-#[tactic(auto, using(crate::proofs::Resolving::query_verifies, crate::proofs::Resolving::query_proper))]
+#[tactic(auto, using(crate::proofs::Resolving::query_verifies))]
 fn verified_caller_by_query(
     alloc: Global,
     service: &Service,
@@ -292,16 +278,20 @@ fn verified_caller_by_query(
     requires { is_presigned target.now.query ≡ true }
     ensures verdict { Verifies (by_query (owner_or_refusal service.now.keys
         service.now.settings.region message.now target.now moment)) result }
-    ensures proper { IfErr result IsProperMeant }
 {
-    let region = service.settings.region.as_slice();
-    match verify_query(alloc, &service.keys, region, message, target, moment) {
+    let request = SignedRequest {
+        message,
+        target,
+        region: service.settings.region.as_slice(),
+        moment,
+    };
+    match verify_query(alloc, &service.keys, &request) {
         Ok(caller) => Ok(caller),
         Err(refusal) => Err(refused_by_query(refusal)),
     }
 }
 
-#[tactic(auto, using(crate::proofs::Resolving::refused_verifies, extended::proofs::lemmas::Refused::refused_proper))]
+#[tactic(auto, using(crate::proofs::Resolving::refused_verifies))]
 fn verified_caller_by_header(
     alloc: Global,
     service: &Service,
@@ -311,10 +301,14 @@ fn verified_caller_by_header(
 ) -> Result<Caller, Meant>
     ensures verdict { Verifies (by_header (caller_or_refusal service.now.keys
         service.now.settings.region message.now target.now moment)) result }
-    ensures proper { IfErr result IsProperMeant }
 {
-    let region = service.settings.region.as_slice();
-    match verify(alloc, &service.keys, region, message, target, moment) {
+    let request = SignedRequest {
+        message,
+        target,
+        region: service.settings.region.as_slice(),
+        moment,
+    };
+    match verify(alloc, &service.keys, &request) {
         Ok(caller) => Ok(caller),
         Err(refusal) => Err(refused_by(refusal)),
     }
@@ -326,14 +320,14 @@ fn refused_by_query(refusal: QueryRefusal) -> Meant
 {
     match refusal {
         QueryRefusal::QueryMalformed | QueryRefusal::WrongScope => {
-            Meant::Refused(Code::AuthorizationQueryParametersError)
+            Meant::refused(Code::AuthorizationQueryParametersError)
         }
-        QueryRefusal::UnknownKey => Meant::Refused(Code::InvalidAccessKeyId),
+        QueryRefusal::UnknownKey => Meant::refused(Code::InvalidAccessKeyId),
         QueryRefusal::UnsignedHeader | QueryRefusal::OutOfTime => {
-            Meant::Refused(Code::AccessDenied)
+            Meant::refused(Code::AccessDenied)
         }
-        QueryRefusal::Streaming => Meant::Refused(Code::NotImplemented),
-        QueryRefusal::SignatureDiffers(_) => Meant::Refused(Code::SignatureDoesNotMatch),
+        QueryRefusal::Streaming => Meant::refused(Code::NotImplemented),
+        QueryRefusal::SignatureDiffers(_) => Meant::refused(Code::SignatureDoesNotMatch),
         QueryRefusal::Memory => Meant::Memory,
     }
 }
@@ -351,9 +345,8 @@ fn end_of(message: &Message) -> Option<Ended>
 }
 
 /// A request that was refused before it was understood, as it is answered: with the code of its kind, on `/`.
-#[tactic(auto, using(crate::proofs::Resolving::refused_is, crate::proofs::Resolving::code_is_proper))]
+#[tactic(auto, using(crate::proofs::Resolving::refused_is))]
 fn resolve_refused(kind: Kind, place: u64, head: bool) -> ResolvedRequest<'static>
-    ensures proper { IsProperMeant result.means }
     ensures ends { result.end ≡ Some (ended.Refused kind place) }
     ensures served { is_failed_step result.end ≡ false }
     ensures is { Is result (refused_request kind place head) }
@@ -362,7 +355,7 @@ fn resolve_refused(kind: Kind, place: u64, head: bool) -> ResolvedRequest<'stati
         caller: Caller::Anonymous,
         method: method_for(head),
         resource: b"/",
-        means: Meant::Refused(code_of_refused_front(kind)),
+        means: Meant::refused(code_of_refused_front(kind)),
         end: Some(Ended::Refused { kind, place }),
     }
 }
@@ -374,7 +367,8 @@ fn method_for(head: bool) -> &'static [u8]
 }
 
 fn code_of_refused_front(kind: Kind) -> Code
-    ensures { result ≡ code_of kind }
+    ensures code { result ≡ code_of kind }
+    ensures proper { IsProperCode result }
 {
     match kind {
         Kind::BadHead | Kind::LongHead | Kind::ManyHeaders | Kind::BadLength => {

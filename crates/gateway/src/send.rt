@@ -1,7 +1,6 @@
 //! How an object is sent as its bytes come: the head of the reply, and then each piece as it was got.
 ghost use Rattle.std.specs.Prelude.{◌≡◌, ◌<◌, ◌≤◌, ◌+◌, ◌-◌, min, false, is_some, IsTrue, IfOk, OnOk, Some, None};
 ghost use Rattle.gate_base.specs.Line.{OnlyWrites};
-ghost use Rattle.gate_base.specs.Told.{moment_limit};
 ghost use Rattle.s3_machine.specs.Shown.{IsShowable};
 ghost use Rattle.http_wire.specs.FirstMessage.{is_head};
 ghost use Rattle.swift_calls.specs.History.{present};
@@ -12,15 +11,16 @@ ghost use Rattle.gateway.specs.Handled.{EndsWith, NotFailedIfServed, is_failed_r
 ghost use Rattle.gateway.specs.Reading.{IsReady, SendsBehind, SendsBody, SendsObject, SendsPiece, SendsReading, SendsReply, ended_by, head_text};
 ghost use Rattle.gateway.specs.declared.write.Written.TheVariants as written;
 ghost use Rattle.gateway.specs.Serving.{is_failed_step};
+ghost use Rattle.gateway.specs.World.{SendsOver};
 ghost use Rattle.gateway.specs.Write.{WritesHead, is_failed_stop, is_failed_write};
 
-use crate::Ended;
 use crate::handle::Handled;
-use crate::write::{Written, print_reply, write_memory_reply, write_reply};
+use crate::write::{ReplyContext, Written, print_reply, write_memory_reply, write_reply};
+use crate::{Ended, World};
 use account_calls::{PlanFault, Settled};
-use gate_base::{Bytes, Copying, Line, Memory, drop};
+use gate_base::{Bytes, Clock, Copying, Draws, Line, Memory, drop};
 use planner::{Found, Reading, read_piece};
-use s3_machine::{Label, Reply, Settings};
+use s3_machine::{ObjectBytes, Reply, Settings};
 use std::alloc::Global;
 use swift_calls::Swift;
 
@@ -37,36 +37,29 @@ pub enum Stop {
 }
 
 /// Sends what was answered: a whole reply as one piece, or an object as its bytes come.
-pub fn send_reading<N: Line<W>, W: Swift>(
+pub fn send_reading<N: Line<W>, W: Swift, C: Clock, D: Draws>(
     alloc: Global,
-    line: &mut N,
-    store: &mut W,
+    lent: &mut World<'_, N, W, C, D>,
     settings: &Settings,
     reading: Reading,
-    label: &Label,
-    method: &[u8],
-    resource: &[u8],
+    context: &ReplyContext<'_>,
     end: Option<Ended>,
 ) -> Handled
-    requires open { IsTrue (N.model line.old).is_open }
-    requires ready { IsReady (W.history store.old) reading }
-    requires moment { label.now.moment < moment_limit }
+    requires open { IsTrue (N.model lent.old.line.now).is_open }
+    requires ready { IsReady (W.history lent.old.store.now) reading }
     requires served { is_failed_step end ≡ false }
+    ensures stays { SendsOver lent.old lent.new }
     ensures endings { EndsWith end result }
     ensures served { NotFailedIfServed result }
-    ensures writes { OnlyWrites (is_failed_reply result) (N.model line.old) (N.model line.new) }
-    ensures sends { SendsReading reading label.now method.now resource.now end (N.model line.old)
-        (W.history store.old) result (N.model line.new) (W.history store.new) }
+    ensures writes { OnlyWrites (is_failed_reply result) (N.model lent.old.line.now)
+        (N.model lent.new.line.now) }
+    ensures sends { SendsReading reading context.now.label context.now.method.now
+        context.now.resource.now end (N.model lent.old.line.now) (W.history lent.old.store.now)
+        result (N.model lent.new.line.now) (W.history lent.new.store.now) }
 {
     match reading {
-        Reading::Whole(reply) => {
-            send_reply(alloc, line, store, reply, label, method, resource, end)
-        }
-        Reading::Pieces(found) => {
-            send_object(
-                alloc, line, store, settings, found, label, method, resource, end,
-            )
-        }
+        Reading::Whole(reply) => send_reply(alloc, lent.line, lent.store, reply, context, end),
+        Reading::Pieces(found) => send_object(alloc, lent, settings, found, context, end),
     }
 }
 
@@ -75,31 +68,21 @@ fn send_reply<N: Line<W>, W: Swift>(
     line: &mut N,
     store: &W,
     reply: Reply,
-    label: &Label,
-    method: &[u8],
-    resource: &[u8],
+    context: &ReplyContext<'_>,
     end: Option<Ended>,
 ) -> Handled
     requires open { IsTrue (N.model line.old).is_open }
     requires showable { IsShowable reply }
-    requires moment { label.now.moment < moment_limit }
     requires served { is_failed_step end ≡ false }
     ensures endings { EndsWith end result }
     ensures served { NotFailedIfServed result }
     ensures writes { OnlyWrites (is_failed_reply result) (N.model line.old) (N.model line.new) }
-    ensures sends { IsTrue (N.model line.old).observable → SendsReply reply label.now method.now resource.now end (N.model line.old).transcript
-        (W.history store.now).called result (N.model line.new).transcript }
+    ensures sends { IsTrue (N.model line.old).observable
+        → SendsReply reply context.now.label context.now.method.now context.now.resource.now end
+        (N.model line.old).transcript (W.history store.now).called result
+        (N.model line.new).transcript }
 {
-    match write_reply(
-        alloc,
-        line,
-        store,
-        reply,
-        label,
-        method,
-        resource,
-        end.is_some(),
-    ) {
+    match write_reply(alloc, line, store, reply, context, end.is_some()) {
         Written::Whole => Handled::Served(end),
         Written::Memory => {
             drop(end);
@@ -113,40 +96,30 @@ fn send_reply<N: Line<W>, W: Swift>(
 }
 
 /// Sends an object: the head of its reply as one piece, or the out-of-memory reply in its place, and then its bytes.
-fn send_object<N: Line<W>, W: Swift>(
+fn send_object<N: Line<W>, W: Swift, C: Clock, D: Draws>(
     alloc: Global,
-    line: &mut N,
-    store: &mut W,
+    lent: &mut World<'_, N, W, C, D>,
     settings: &Settings,
     found: Found,
-    label: &Label,
-    method: &[u8],
-    resource: &[u8],
+    context: &ReplyContext<'_>,
     end: Option<Ended>,
 ) -> Handled
-    requires open { IsTrue (N.model line.old).is_open }
+    requires open { IsTrue (N.model lent.old.line.now).is_open }
     requires found { IsFound found }
-    requires settled { IsTrue (W.history store.old).observable
-        → IsSettled (present (W.history store.old)) }
-    requires moment { label.now.moment < moment_limit }
+    requires settled { IsTrue (W.history lent.old.store.now).observable
+        → IsSettled (present (W.history lent.old.store.now)) }
     requires served { is_failed_step end ≡ false }
+    ensures stays { SendsOver lent.old lent.new }
     ensures endings { EndsWith end result }
     ensures served { NotFailedIfServed result }
-    ensures writes { OnlyWrites (is_failed_reply result) (N.model line.old) (N.model line.new) }
-    ensures sends { SendsObject found label.now method.now resource.now end (N.model line.old)
-        (W.history store.old) result (N.model line.new) (W.history store.new) }
+    ensures writes { OnlyWrites (is_failed_reply result) (N.model lent.old.line.now)
+        (N.model lent.new.line.now) }
+    ensures sends { SendsObject found context.now.label context.now.method.now
+        context.now.resource.now end (N.model lent.old.line.now) (W.history lent.old.store.now)
+        result (N.model lent.new.line.now) (W.history lent.new.store.now) }
 {
-    match write_head(
-        alloc,
-        line,
-        store,
-        &found,
-        label,
-        method,
-        resource,
-        end.is_some(),
-    ) {
-        Written::Whole => send_behind_head(alloc, line, store, settings, found, end),
+    match write_head(alloc, lent.line, lent.store, &found, context, end.is_some()) {
+        Written::Whole => send_behind_head(alloc, lent.line, lent.store, settings, found, end),
         Written::Memory => {
             drop(end);
             drop(found);
@@ -166,27 +139,25 @@ fn write_head<N: Line<W>, W: Swift>(
     line: &mut N,
     store: &W,
     found: &Found,
-    label: &Label,
-    method: &[u8],
-    resource: &[u8],
+    context: &ReplyContext<'_>,
     closing: bool,
 ) -> Written
     requires open { IsTrue (N.model line.old).is_open }
     requires found { IsFound found.now }
-    requires moment { label.now.moment < moment_limit }
     ensures writes { OnlyWrites (is_failed_write result) (N.model line.old) (N.model line.new) }
     ensures effect { IsTrue (N.model line.old).observable
         → WritesHead (N.model line.old).transcript (W.history store.now).called
-        (head_text found.now label.now method.now resource.now closing) method.now result
-        (N.model line.new).transcript }
-    ensures method { result ≡ written.Whole → is_head method.now ≡ false }
+        (head_text found.now context.now.label context.now.method.now context.now.resource.now
+        closing)
+        context.now.method.now result (N.model line.new).transcript }
+    ensures method { result ≡ written.Whole → is_head context.now.method.now ≡ false }
 {
-    match print_head(alloc, found, label, method, resource, closing) {
+    match print_head(alloc, found, context, closing) {
         Ok(text) => match line.write(store, text.as_slice()) {
             Ok(()) => Written::Whole,
             Err(_) => Written::Failed,
         },
-        Err(_) => write_memory_reply(line, store, method == b"HEAD".as_slice()),
+        Err(_) => write_memory_reply(line, store, context.method == b"HEAD".as_slice()),
     }
 }
 
@@ -194,29 +165,27 @@ fn write_head<N: Line<W>, W: Swift>(
 fn print_head(
     alloc: Global,
     found: &Found,
-    label: &Label,
-    method: &[u8],
-    resource: &[u8],
+    context: &ReplyContext<'_>,
     closing: bool,
 ) -> Result<Bytes, Memory>
     requires found { IsFound found.now }
-    requires moment { label.now.moment < moment_limit }
     ensures text { IfOk result
-        (λ text. text ≡ head_text found.now label.now method.now resource.now closing) }
-    ensures method { OnOk result (is_head method.now ≡ false) }
+        (λ text. text ≡ head_text found.now context.now.label context.now.method.now
+        context.now.resource.now closing) }
+    ensures method { OnOk result (is_head context.now.method.now ≡ false) }
 {
-    if method == b"HEAD".as_slice() {
+    if context.method == b"HEAD".as_slice() {
         return Err(Memory);
     }
     let head = found.head.copy()?;
-    let reply = Reply::Object {
+    let reply = Reply::Object(ObjectBytes {
         head,
         from: found.from,
         length: found.length,
         partial: found.partial,
         body: Bytes::new(alloc),
-    };
-    print_reply(alloc, reply, label, method, resource, closing)
+    });
+    print_reply(alloc, reply, context, closing)
 }
 
 /// Sends the bytes behind the head.
@@ -272,8 +241,8 @@ fn send_from<N: Line<W>, W: Swift>(
     ensures sends { SendsBody found.now (N.model line.old) (W.history store.old) result
         (N.model line.new) (W.history store.new) }
 {
-    let mut state = Settled::hold(store, settings);
-    send_pieces(alloc, line, &mut state, found)
+    let mut state = Settled::hold(alloc, store, settings);
+    send_pieces(line, &mut state, found)
 }
 
 /// How a connection ends whose read broke off.
@@ -284,15 +253,14 @@ fn ended_by(found: Found, fault: PlanFault) -> Ended
         PlanFault::Failed => Ended::StoreFailed,
         PlanFault::Memory => Ended::Memory,
         PlanFault::Inconsistent => Ended::Inconsistent {
-            container: found.bucket,
-            name: found.key,
+            container: found.bucket.into_text(),
+            name: found.key.into_text(),
         },
     }
 }
 
 /// Sends the bytes of an object, each piece as it was got. `None` says that all were sent.
 fn send_pieces<N: Line<W>, W: Swift>(
-    alloc: Global,
     line: &mut N,
     state: &mut Settled<'_, W>,
     found: &Found,
@@ -307,7 +275,7 @@ fn send_pieces<N: Line<W>, W: Swift>(
     let mut at = 0;
     'pieces: while at < found.length {
         let size = piece_size(found.length - at);
-        match send_piece(alloc, line, state, found, at, size) {
+        match send_piece(line, state, found, at, size) {
             Some(stop) => return Some(stop),
             None => at += size,
         }
@@ -323,7 +291,6 @@ fn piece_size(left: u64) -> u64
 
 /// Gets a piece and sends it.
 fn send_piece<N: Line<W>, W: Swift>(
-    alloc: Global,
     line: &mut N,
     state: &mut Settled<'_, W>,
     found: &Found,
@@ -339,7 +306,7 @@ fn send_piece<N: Line<W>, W: Swift>(
     ensures sends { SendsPiece found.now at size (N.model line.old) (W.history state.old.store.now)
         result (N.model line.new) (W.history state.new.store.now) }
 {
-    match read_piece(alloc, state, found, at, size) {
+    match read_piece(state, found, at, size) {
         Ok(bytes) => match line.write(state.store(), bytes.as_slice()) {
             Ok(()) => None,
             Err(_) => Some(Stop::Line),

@@ -1,7 +1,6 @@
 //! What is written for a reply.
 ghost use Rattle.std.specs.Prelude.{◌≡◌, ◌≢◌, ◌<◌, IsTrue, IfOk, OnOk};
 ghost use Rattle.gate_base.specs.Line.{OnlyWrites};
-ghost use Rattle.gate_base.specs.Told.{moment_limit};
 ghost use Rattle.http_wire.specs.Print.{memory_reply};
 ghost use Rattle.s3_machine.specs.declared.operation.Reply.TheVariants as answer;
 ghost use Rattle.s3_machine.specs.Shown.{IsShowable};
@@ -27,31 +26,37 @@ pub enum Written {
     Failed,
 }
 
+/// What a reply is printed for: the label of its request, the method, and the raw path of the target, which an error names.
+#[derive(Debug, Drop)]
+pub struct ReplyContext<'a> {
+    pub label: Label,
+    pub method: &'a [u8],
+    pub resource: &'a [u8],
+}
+
 /// Writes a reply as one piece, or the out-of-memory reply in its place.
 pub fn write_reply<N: Line<W>, W: Swift>(
     alloc: Global,
     line: &mut N,
     store: &W,
     reply: Reply,
-    label: &Label,
-    method: &[u8],
-    resource: &[u8],
+    context: &ReplyContext<'_>,
     closing: bool,
 ) -> Written
     requires open { IsTrue (N.model line.old).is_open }
     requires showable { IsShowable reply }
-    requires moment { label.now.moment < moment_limit }
     ensures writes { OnlyWrites (is_failed_write result) (N.model line.old) (N.model line.new) }
     ensures effect { IsTrue (N.model line.old).observable
-        → WritesReply (N.model line.old).transcript (W.history store.now).called reply label.now
-        method.now resource.now closing result (N.model line.new).transcript }
+        → WritesReply (N.model line.old).transcript (W.history store.now).called reply
+        context.now.label context.now.method.now context.now.resource.now closing result
+        (N.model line.new).transcript }
 {
-    match print_reply(alloc, reply, label, method, resource, closing) {
+    match print_reply(alloc, reply, context, closing) {
         Ok(text) => match line.write(store, text.as_slice()) {
             Ok(()) => Written::Whole,
             Err(_) => Written::Failed,
         },
-        Err(_) => write_memory_reply(line, store, method == b"HEAD".as_slice()),
+        Err(_) => write_memory_reply(line, store, context.method == b"HEAD".as_slice()),
     }
 }
 
@@ -81,28 +86,26 @@ fn write_out_of_memory<N: Line<W>, W: Swift>(line: &mut N, store: &W, bytes: &[u
     }
 }
 
-/// The bytes of a reply to a request of that method, whose target has the raw path `resource`; `closing` says that the
+/// The bytes of a reply to a request of that context; `closing` says that the
 /// connection ends after it. Moments are seconds since the beginning of 1970. The reply that says that memory ran out has
 /// its bytes from [`http_wire::print_memory`]: for it the call fails.
 #[tactic(auto, using(crate::proofs::Statuses::reply_status), unfolding(crate::specs::Request::reply_text))]
 pub fn print_reply(
     alloc: Global,
     reply: Reply,
-    label: &Label,
-    method: &[u8],
-    resource: &[u8],
+    context: &ReplyContext<'_>,
     closing: bool,
 ) -> Result<Bytes, Memory>
     requires showable { IsShowable reply }
-    requires moment { label.now.moment < moment_limit }
     ensures text { IfOk result
-        (λ text. text ≡ reply_text reply label.now method.now resource.now closing) }
+        (λ text. text ≡ reply_text reply context.now.label context.now.method.now
+        context.now.resource.now closing) }
     ensures known { OnOk result (reply ≢ answer.Memory) }
 {
     if let Reply::Memory = reply {
         return Err(Memory);
     }
-    let page = page(alloc, reply, label, resource)?;
-    let text = print_page(alloc, &page, method, closing)?;
+    let page = page(alloc, reply, &context.label, context.resource)?;
+    let text = print_page(alloc, &page, context.method, closing)?;
     Ok(text)
 }

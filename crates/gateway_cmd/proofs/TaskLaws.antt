@@ -33,8 +33,6 @@ pub record TaskLaws (task : Task) : Type 1 where
   -- a run that did nothing, as memory ran out before, or the keys are refused
   pub idle : (keys : List ℕ) (ended : RunOutcome) (line : LineModel) (store : History) (clock draws : SourceModel) → IsIdle keys ended
       → Does task keys ended (world line store Unsure clock draws) (λ known. world line store known clock draws)
-  -- what is left alone, where the draws are too
-  pub draws : (L S C D : Type 0) → Apart task L S C (Unit {0}) → D → Apart task L S C D
   -- what the run is among others, one after another
   pub among : (L S C D : Type 0) (keys : List ℕ) (ended : RunOutcome) (old : World) (new : Known → World) → Does task keys ended old new → Apart task L S C D
       → (S → (new Unsure).store ≡ old.store) → ((known : Known) → (new known).store ≡ (new Unsure).store) → Met Any old.store → old.known ≡ Unsure → HasWorked task old.store (new Unsure).store
@@ -46,12 +44,10 @@ still {h = h} same met = subst (λ h'. RunPromises h' h.called h'.called upkeep)
 laws_of : (task : Task) → TaskLaws task
 laws_of nothing = record {
   idle = λ keys ended line store clock draws idle. tt;
-  draws = λ L S C D left draws. (left.0, left.1, left.2, draws);
   among = λ L S C D keys ended old new does apart same own met unsure. record { work = upkeep; is = refl; promises = still (same apart.1) met };
 }
 laws_of (to_serve serving) = record {
   idle = λ keys ended line store clock draws idle. run_serves_none serving keys ended line store clock draws (idle_fails idle) (idle_ends idle);
-  draws = λ L S C D left draws. tt;
   among = λ L S C D keys ended old new does apart same own met unsure.
       let stood = does.serves.stands (subst (λ known. Met (IsKnown known) old.store) (sym unsure) (unsure_met met)) in
       record {
@@ -62,32 +58,26 @@ laws_of (to_serve serving) = record {
 }
 laws_of (to_sign id region) = record {
   idle = λ keys ended line store clock draws idle. run_signs_none id region keys store.called ended line (idle_fails idle) (idle_never idle);
-  draws = λ L S C D left draws. (left.0, left.1, draws);
   among = λ L S C D keys ended old new does apart same own met unsure. record { work = upkeep; is = refl; promises = still (same apart.0) met };
 }
 laws_of (to_presign id region expires) = record {
   idle = λ keys ended line store clock draws idle. run_presigns_none id region expires keys store.called ended line clock (idle_fails idle) (idle_never idle);
-  draws = λ L S C D left draws. (left.0, draws);
   among = λ L S C D keys ended old new does apart same own met unsure. record { work = upkeep; is = refl; promises = still (same apart.0) met };
 }
 laws_of to_recover = record {
   idle = λ keys ended line store clock draws idle. nothing_done refl idle;
-  draws = λ L S C D left draws. (left.0, left.1, draws);
   among = λ L S C D keys ended old new does apart same own met unsure. record { work = upkeep; is = refl; promises = recovers_quietly does met };
 }
 laws_of (to_sweep before) = record {
   idle = λ keys ended line store clock draws idle. none_swept refl idle;
-  draws = λ L S C D left draws. (left.0, left.1, draws);
   among = λ L S C D keys ended old new does apart same own met unsure. record { work = forgetting before; is = refl; promises = sweeps_forget does met };
 }
 laws_of to_check = record {
   idle = λ keys ended line store clock draws idle. none_surveyed refl idle;
-  draws = λ L S C D left draws. (left.0, left.1, draws);
   among = λ L S C D keys ended old new does apart same own met unsure. record { work = upkeep; is = refl; promises = surveys_quietly does met };
 }
 laws_of (to_try number requests) = record {
   idle = λ keys ended line store clock draws idle. nothing_tried refl idle;
-  draws = λ L S C D left draws. (left.0, left.1, draws);
   among = λ L S C D keys ended old new does apart same own met unsure.
       let work = tries_work does met in
       record { work = answering trial_service.settings work.spans; is = (work.spans, refl); promises = work.promises };
@@ -98,9 +88,6 @@ laws_of (to_try number requests) = record {
 pub does_none : (task : Task) (keys : List ℕ) (ended : RunOutcome) (line : LineModel) (store : History) (clock draws : SourceModel) → IsIdle keys ended
     → Does task keys ended (world line store Unsure clock draws) (λ known. world line store known clock draws)
 does_none task keys ended line store clock draws idle = (laws_of task).idle keys ended line store clock draws idle
-
-pub draws_apart : (L S C D : Type 0) (task : Task) → Apart task L S C (Unit {0}) → D → Apart task L S C D
-draws_apart L S C D task left draws = (laws_of task).draws L S C D left draws
 
 pub works : (L S C D : Type 0) (task : Task) (keys : List ℕ) (ended : RunOutcome) (old : World) (new : Known → World) → Does task keys ended old new → Apart task L S C D
     → (S → (new Unsure).store ≡ old.store) → ((known : Known) → (new known).store ≡ (new Unsure).store) → Met Any old.store → old.known ≡ Unsure → HasWorked task old.store (new Unsure).store

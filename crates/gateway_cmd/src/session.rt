@@ -1,14 +1,13 @@
 //! The commands `session` and `serve`: the connections of the line, in turn.
 ghost use Rattle.std.specs.Prelude.{◌-◌, true, false, Some};
 ghost use Rattle.account_calls.specs.Known.{Knows};
-ghost use Rattle.gateway.specs.World.{world, ServesOver};
+ghost use Rattle.gateway.specs.World.{world_in, ServesOver, StaysLent};
 ghost use Rattle.http_service.specs.Running.{LineServesAll, LineServesNext};
 ghost use Rattle.gateway_cmd.specs.Run.{RunTraces};
 ghost use Rattle.gateway_cmd.specs.Session.{NextCursor};
 
-use account_calls::Known;
 use gate_base::{Clock, Draws, Line};
-use gateway::{Service, serve_connection};
+use gateway::{Service, World, serve_connection};
 use http_service::{Stopped, is_connection_limit_reached, one_less};
 use std::alloc::Global;
 use swift_calls::Swift;
@@ -19,24 +18,22 @@ pub fn session<N: Line<W>, W: Swift, C: Clock, D: Draws>(
     alloc: Global,
     service: &Service,
     most: Option<u64>,
-    line: &mut N,
-    store: &mut W,
-    known: &mut Known,
-    clock: &mut C,
-    draws: &mut D,
+    lent: &mut World<'_, N, W, C, D>,
 ) -> Stopped
-    requires { Knows known.old (W.history store.old) }
-    ensures line { LineServesAll most result (N.model line.old) (N.model line.new) }
+    requires { Knows lent.old.known (W.history lent.old.store.now) }
+    ensures stays { StaysLent lent.old lent.new }
+    ensures line { LineServesAll most result (N.model lent.old.line.now)
+        (N.model lent.new.line.now) }
     ensures serves { ServesOver service.now.settings (RunTraces service.now)
-        (world (N.model line.old) (W.history store.old) known.old (C.model clock.old) (D.model draws.old))
-        (world (N.model line.new) (W.history store.new) known.new (C.model clock.new) (D.model draws.new)) }
+        (world_in N.model W.history C.model D.model lent.old)
+        (world_in N.model W.history C.model D.model lent.new) }
 {
     let mut left = most;
     'connections: loop {
         if is_connection_limit_reached(left) {
             return Stopped::Done;
         }
-        match serve_another(alloc, service, line, store, known, clock, draws) {
+        match serve_another(alloc, service, lent) {
             Some(stopped) => return stopped,
             None => left = one_less(left),
         }
@@ -47,21 +44,18 @@ pub fn session<N: Line<W>, W: Swift, C: Clock, D: Draws>(
 fn serve_another<N: Line<W>, W: Swift, C: Clock, D: Draws>(
     alloc: Global,
     service: &Service,
-    line: &mut N,
-    store: &mut W,
-    known: &mut Known,
-    clock: &mut C,
-    draws: &mut D,
+    lent: &mut World<'_, N, W, C, D>,
 ) -> Option<Stopped>
-    requires { Knows known.old (W.history store.old) }
-    ensures line { LineServesNext result (N.model line.old) (N.model line.new) }
+    requires { Knows lent.old.known (W.history lent.old.store.now) }
+    ensures stays { StaysLent lent.old lent.new }
+    ensures line { LineServesNext result (N.model lent.old.line.now) (N.model lent.new.line.now) }
     ensures serves { ServesOver service.now.settings (λ R. NextCursor service.now R result)
-        (world (N.model line.old) (W.history store.old) known.old (C.model clock.old) (D.model draws.old))
-        (world (N.model line.new) (W.history store.new) known.new (C.model clock.new) (D.model draws.new)) }
+        (world_in N.model W.history C.model D.model lent.old)
+        (world_in N.model W.history C.model D.model lent.new) }
 {
-    match line.next() {
+    match lent.line.next() {
         Ok(true) => {
-            let _ended = serve_connection(alloc, store, known, service, line, clock, draws);
+            let _ended = serve_connection(alloc, service, lent);
             None
         }
         Ok(false) => Some(Stopped::Done),

@@ -45,13 +45,11 @@ pub(crate) fn window(bytes: &[u8]) -> &[u8]
     &bytes[..HEAD_LIMIT.min(bytes.len())]
 }
 
-/// Reads until it is known what stands first. What was read stays in `pending`, whatever the answer. The store only
-/// says whose calls the line records.
+/// Reads until it is known what stands first. What was read stays in `pending`, whatever the answer.
 pub(crate) fn advance<N: Line<C>, C: Counted>(
     pending: &mut Vec<u8>,
     headers: &mut [HeaderSpan],
     line: &mut N,
-    store: &C,
 ) -> Result<Found, ReadFault>
     requires open { IsTrue (N.model line.old).is_open }
     requires room { 8192 ≤ length headers.old }
@@ -73,7 +71,7 @@ pub(crate) fn advance<N: Line<C>, C: Counted>(
                 None => seen = pending.len(),
             }
         }
-        match read_more_of_request(pending, line, store) {
+        match read_more_of_request(pending, line) {
             Ok(0) => return Ok(head_found_at_end(pending, headers)),
             Ok(_) => {}
             Err(fault) => return Err(fault),

@@ -14,7 +14,6 @@ pub(crate) const READ_SIZE: usize = 4_096;
 pub(crate) fn read_more_of_request<N: Line<C>, C: Counted>(
     pending: &mut Vec<u8>,
     line: &mut N,
-    store: &C,
 ) -> Result<usize, ReadFault>
     requires { IsTrue (N.model line.old).is_open }
     ensures reads { OnlyReads (is_failed_read result) (N.model line.old) (N.model line.new) }
@@ -33,7 +32,7 @@ pub(crate) fn read_more_of_request<N: Line<C>, C: Counted>(
 {
     let came = pending.len();
     pending.resize(came + READ_SIZE, 0)?;
-    match read_room(pending, came, line, store) {
+    match read_room(pending, came, line) {
         Ok(count) => {
             pending.truncate(came + count);
             Ok(count)
@@ -51,7 +50,6 @@ pub(crate) fn read_room<N: Line<C>, C: Counted>(
     bytes: &mut Vec<u8>,
     came: usize,
     line: &mut N,
-    store: &C,
 ) -> Result<usize, ReadFault>
     requires open { IsTrue (N.model line.old).is_open }
     requires room { came < length bytes.old.items }

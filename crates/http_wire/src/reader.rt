@@ -105,7 +105,7 @@ impl Reader {
             return Ok(Got::End);
         }
         self.over = true;
-        match advance(&mut self.pending, &mut self.lines, line, store) {
+        match advance(&mut self.pending, &mut self.lines, line) {
             Ok(Found::Head(spans)) => {
                 let taken = take_message(
                     limit,

@@ -130,7 +130,7 @@ fn take_offered<N: Line<C>, C: Counted>(
         ++ (N.model line.old).transcript.rest) }
 {
     offer(message, size, line, store)?;
-    take_request_body(pending, body, start, size, line, store)
+    take_request_body(pending, body, start, size, line)
 }
 
 fn is_head(message: &Message) -> bool
@@ -147,7 +147,6 @@ fn take_request_body<N: Line<C>, C: Counted>(
     start: usize,
     size: usize,
     line: &mut N,
-    store: &C,
 ) -> Result<bool, ReadFault>
     requires open { IsTrue (N.model line.old).is_open }
     requires within { start ≤ length pending.old.items }
@@ -169,7 +168,7 @@ fn take_request_body<N: Line<C>, C: Counted>(
         return Ok(true);
     }
     begin_request_body(pending, body, start, size)?;
-    if !finish_request_body(body, size, line, store)? {
+    if !finish_request_body(body, size, line)? {
         return Ok(false);
     }
     pending.truncate(0);
@@ -200,7 +199,6 @@ fn finish_request_body<N: Line<C>, C: Counted>(
     body: &mut Vec<u8>,
     size: usize,
     line: &mut N,
-    store: &C,
 ) -> Result<bool, ReadFault>
     requires open { IsTrue (N.model line.old).is_open }
     requires short { length body.old.items ≤ size }
@@ -218,7 +216,7 @@ fn finish_request_body<N: Line<C>, C: Counted>(
         if came == body.len() {
             body.resize(came + PIECE.min(size - came), 0)?;
         }
-        match read_room(body, came, line, store) {
+        match read_room(body, came, line) {
             Ok(0) => {
                 body.truncate(came);
                 return Ok(false);

@@ -93,7 +93,6 @@ fn sweep_items<W: Swift>(
 fn sweep_page<W: Swift>(
     alloc: Global,
     store: &mut W,
-    bucket: &Bytes,
     folder: &Bytes,
     kept: &Kept,
     marker: &Bytes,
@@ -104,10 +103,11 @@ fn sweep_page<W: Swift>(
         × ((W.history store.old).called + told.0 < (W.history store.new).called)) }
     ensures few { IfOk result (λ told. told.0 ≤ 1000) }
     ensures is_marker { IfOk result (λ told. IfSome told.1 IsMarker) }
-    ensures asks { Asks (always 1001) (W.history store.old) (W.history store.new)
-        (MaySweep folder.now bucket.now (goes kept.now) marker.now)
-        (TellsPage folder.now bucket.now (goes kept.now) marker.now) result }
-    ensures pays { PaysPage folder.now bucket.now (goes kept.now) marker.now
+    ensures asks { (bucket : List ℕ) → Asks (always 1001) (W.history store.old)
+        (W.history store.new)
+        (MaySweep folder.now bucket (goes kept.now) marker.now)
+        (TellsPage folder.now bucket (goes kept.now) marker.now) result }
+    ensures pays { (bucket : List ℕ) → PaysPage folder.now bucket (goes kept.now) marker.now
         (W.history store.old) (W.history store.new) result }
 {
     let page = file_page(alloc, store, folder.as_slice(), marker.as_slice())?;
@@ -123,21 +123,23 @@ fn sweep_page<W: Swift>(
 pub(crate) fn sweep_files<W: Swift>(
     alloc: Global,
     store: &mut W,
-    bucket: &Bytes,
     folder: &Bytes,
     kept: &Kept,
 ) -> Result<u64, PlanFault>
     requires { IsContainerName folder.now }
     ensures counted { IfOk result (λ count. (W.history store.old).called + count ≤ (W.history store.new).called) }
     ensures fits { IfOk result (λ count. (W.history store.old).called + count < 2 ^ 64) }
-    ensures asks { Asks (by_account (sweep_calls (present (W.history store.old)) folder.now (goes kept.now) []))
+    ensures asks { (bucket : List ℕ)
+        → Asks (by_account (sweep_calls (present (W.history store.old)) folder.now (goes kept.now)
+        []))
         (W.history store.old) (W.history store.new)
-        (MaySweep folder.now bucket.now (goes kept.now) []) (TellsAll folder.now (goes kept.now)) result }
+        (MaySweep folder.now bucket (goes kept.now) []) (TellsAll folder.now (goes kept.now))
+        result }
 {
     let mut count = 0;
     let mut marker = Bytes::new(alloc);
     'pages: loop {
-        let (swept, next) = sweep_page(alloc, store, bucket, folder, kept, &marker)?;
+        let (swept, next) = sweep_page(alloc, store, folder, kept, &marker)?;
         count += swept;
         match next {
             Some(next) => marker = next,

@@ -39,6 +39,14 @@ pub enum Source {
     Objects,
 }
 
+/// The files of a container, of which what they add is gathered for a bucket.
+#[derive(Drop)]
+struct FilesOf<'a> {
+    bucket: &'a Bytes,
+    folder: &'a Bytes,
+    source: Source,
+}
+
 /// Whether a record that was listed is that of an open upload, by GET of its file (Object Storage API v1, "Get object content and
 /// metadata"). One that isn't there now is inconsistent. At most one call.
 fn is_open_upload<W: Swift>(
@@ -276,23 +284,22 @@ fn add_object<W: Swift>(
 fn add_item<W: Swift>(
     alloc: Global,
     store: &mut W,
-    bucket: &Bytes,
-    folder: &Bytes,
-    source: Source,
+    files: &FilesOf<'_>,
     item: &NameItem,
     table: &mut Table<bool>,
 ) -> Result<(), PlanFault>
-    requires bucket { is_bucket bucket.now ≡ true }
-    requires folder { folder.now ≡ folder_of source bucket.now }
+    requires bucket { is_bucket files.now.bucket.now ≡ true }
+    requires folder { files.now.folder.now ≡ folder_of files.now.source files.now.bucket.now }
     requires name { is_key item.now.name ≡ true }
     ensures asks { Asks (always calls_a_file) (W.history store.old) (W.history store.new)
-        (HasItem folder.now bucket.now item.now)
-        (TellsOf (TellsAdded source bucket.now (item.now.name ∷ []) table.old table.new)) result }
+        (HasItem files.now.folder.now files.now.bucket.now item.now)
+        (TellsOf (TellsAdded files.now.source files.now.bucket.now (item.now.name ∷ []) table.old
+        table.new)) result }
     ensures leaves { LeavesThroughout (W.history store.old) (W.history store.new) }
 {
-    match source {
-        Source::Records => add_record(alloc, store, folder, &item.name, table),
-        Source::Objects => add_object(alloc, store, bucket, item, table),
+    match files.source {
+        Source::Records => add_record(alloc, store, files.folder, &item.name, table),
+        Source::Objects => add_object(alloc, store, files.bucket, item, table),
     }
 }
 
@@ -300,22 +307,21 @@ fn add_item<W: Swift>(
 fn add_items<W: Swift>(
     alloc: Global,
     store: &mut W,
-    bucket: &Bytes,
-    folder: &Bytes,
-    source: Source,
+    files: &FilesOf<'_>,
     items: &[NameItem],
     table: &mut Table<bool>,
 ) -> Result<(), PlanFault>
-    requires bucket { is_bucket bucket.now ≡ true }
-    requires folder { folder.now ≡ folder_of source bucket.now }
+    requires bucket { is_bucket files.now.bucket.now ≡ true }
+    requires folder { files.now.folder.now ≡ folder_of files.now.source files.now.bucket.now }
     requires names { list_all is_key (map name_in items.now) ≡ true }
     ensures asks { Asks (always (calls_a_file * length items.now)) (W.history store.old) (W.history store.new)
-        (HasItems folder.now bucket.now items.now)
-        (TellsOf (TellsAdded source bucket.now (map name_in items.now) table.old table.new)) result }
+        (HasItems files.now.folder.now files.now.bucket.now items.now)
+        (TellsOf (TellsAdded files.now.source files.now.bucket.now (map name_in items.now) table.old
+        table.new)) result }
     ensures leaves { LeavesThroughout (W.history store.old) (W.history store.new) }
 {
     for item in items {
-        add_item(alloc, store, bucket, folder, source, item, table)?;
+        add_item(alloc, store, files, item, table)?;
     }
     Ok(())
 }
@@ -324,28 +330,28 @@ fn add_items<W: Swift>(
 fn gather_page<W: Swift>(
     alloc: Global,
     store: &mut W,
-    bucket: &Bytes,
-    folder: &Bytes,
-    source: Source,
+    files: &FilesOf<'_>,
     marker: &Bytes,
     table: &mut Table<bool>,
 ) -> Result<Option<Bytes>, PlanFault>
-    requires bucket { is_bucket bucket.now ≡ true }
-    requires folder { folder.now ≡ folder_of source bucket.now }
+    requires bucket { is_bucket files.now.bucket.now ≡ true }
+    requires folder { files.now.folder.now ≡ folder_of files.now.source files.now.bucket.now }
     requires marker { IsMarker marker.now }
     ensures counted { IfOk result (λ _. (W.history store.old).called < budget
         × ((W.history store.old).called < (W.history store.new).called)) }
     ensures is_marker { IfOk result (λ next. IfSome next IsMarker) }
     ensures asks { Asks (always 11001) (W.history store.old) (W.history store.new)
-        (InBucket bucket.now)
-        (TellsOf (TellsGathered source folder.now bucket.now marker.now table.old table.new)) result }
-    ensures pays { PaysGathering folder.now bucket.now marker.now (W.history store.old)
+        (InBucket files.now.bucket.now)
+        (TellsOf (TellsGathered files.now.source files.now.folder.now files.now.bucket.now
+        marker.now table.old table.new)) result }
+    ensures pays { PaysGathering files.now.folder.now files.now.bucket.now marker.now
+        (W.history store.old)
         (W.history store.new) result }
     ensures leaves { LeavesThroughout (W.history store.old) (W.history store.new) }
 {
-    let page = file_page(alloc, store, folder.as_slice(), marker.as_slice())?;
+    let page = file_page(alloc, store, files.folder.as_slice(), marker.as_slice())?;
     let next = next_marker(page.as_slice())?;
-    add_items(alloc, store, bucket, folder, source, page.as_slice(), table)?;
+    add_items(alloc, store, files, page.as_slice(), table)?;
     Ok(next)
 }
 
@@ -368,10 +374,15 @@ pub fn gather<W: Swift>(
         (TellsOf (TellsAll source folder.now bucket.now)) result }
     ensures leaves { LeavesThroughout (W.history store.old) (W.history store.new) }
 {
+    let files = FilesOf {
+        bucket,
+        folder,
+        source,
+    };
     let mut table = Table::new(alloc);
     let mut marker = Bytes::new(alloc);
     'pages: loop {
-        match gather_page(alloc, store, bucket, folder, source, &marker, &mut table)? {
+        match gather_page(alloc, store, &files, &marker, &mut table)? {
             Some(next) => marker = next,
             None => return Ok(table),
         }

@@ -54,5 +54,5 @@ pub fn sweep_segments<W: Swift>(
 {
     let folder = segments_container(alloc, bucket.as_slice())?;
     let kept = kept_of(alloc, store, bucket)?;
-    sweep_files(alloc, store, bucket, &folder, &kept)
+    sweep_files(alloc, store, &folder, &kept)
 }

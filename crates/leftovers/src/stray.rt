@@ -70,22 +70,17 @@ fn removed_in_reply(reply: &SwiftReply) -> Result<(), PlanFault>
 /// and files, and one, where the store is observable and its account consistent; and the S3 state stays. Failed comes only where the
 /// store's count of faults rose; Memory where memory ran out; Inconsistent never over an observable consistent account that is settled and
 /// has the container, but not the bucket. After a fault what was deleted stays deleted.
-pub fn sweep_stray<W: Swift>(
-    alloc: Global,
-    store: &mut W,
-    bucket: &Bytes,
-    folder: &Bytes,
-) -> Result<u64, PlanFault>
+pub fn sweep_stray<W: Swift>(alloc: Global, store: &mut W, folder: &Bytes) -> Result<u64, PlanFault>
     requires folder { IsContainerName folder.now }
-    requires beside { IsBeside folder.now bucket.now }
     ensures counted { IfOk result (λ count. (W.history store.old).called + (count + 1) ≤ (W.history store.new).called) }
     ensures fits { IfOk result (λ count. (W.history store.old).called + (count + 1) < 2 ^ 64) }
-    ensures asks { Asks (by_account (clear_calls (present (W.history store.old)) folder.now))
-        (W.history store.old) (W.history store.new) (IsStray folder.now bucket.now)
+    ensures asks { (bucket : List ℕ) → IsBeside folder.now bucket
+        → Asks (by_account (clear_calls (present (W.history store.old)) folder.now))
+        (W.history store.old) (W.history store.new) (IsStray folder.now bucket)
         (ClearsSide folder.now) result }
 {
     let kept = Kept::nothing(alloc);
-    let count = sweep_files(alloc, store, bucket, folder, &kept)?;
+    let count = sweep_files(alloc, store, folder, &kept)?;
     remove_side(store, folder)?;
     Ok(count)
 }

@@ -1,25 +1,33 @@
 -- What a copy is of, and what it tells, over every observable store.
-use Rattle.std.specs.Prelude.{◌≡◌, ◌≤◌, ◌<◌, ◌==◌, ℕ, Bool, true, false, IsTrue, List, length, Option, None, Some, IfSome, Result, Ok, Err, IfOk}
-use Rattle.std.proofs.Common.{sym, ap, subst, arith}
+use Rattle.std.specs.Prelude.{◌≡◌, ◌<◌, ℕ, Bool, false, IsTrue, List, length, Option, None, Some, IfSome, Result, Ok, Err, IfOk}
+use Rattle.std.proofs.Common.{refl, sym, ap, subst, arith}
+use Rattle.s3_machine.specs.declared.only_if.OnlyIf.{OnlyIf}
 use Rattle.s3_machine.specs.declared.operation.ObjectHead.{ObjectHead}
 use Rattle.s3_machine.specs.declared.operation.Op.{Op}
-use Rattle.s3_machine.specs.declared.operation.Op.TheVariants as op
-use Rattle.s3_machine.specs.declared.operation.Replaced.{Replaced}
+use Rattle.s3_machine.specs.declared.operation.Op.TheVariants.{OnCopies, OnObjects, OnUploads}
+use Rattle.s3_machine.specs.declared.operation.Op.TheVariants as op_as
+use Rattle.s3_machine.specs.declared.operation.CopiesOp.{CopiesOp}
+use Rattle.s3_machine.specs.declared.operation.CopiesOp.TheVariants as copies_op
+use Rattle.s3_machine.specs.declared.operation.ObjectsOp.TheVariants as objects_op
+use Rattle.s3_machine.specs.declared.operation.UploadsOp.TheVariants as uploads_op
+use Rattle.s3_machine.specs.Ops as op
+use Rattle.s3_machine.specs.declared.operation.Described.{Described}
 use Rattle.s3_machine.specs.declared.operation.Reply.{Reply}
-use Rattle.s3_machine.specs.declared.operation.Reply.TheVariants.{Copied}
+use Rattle.s3_machine.specs.Replies.{Copied}
 use Rattle.s3_machine.specs.declared.reading.Conditions.{Conditions}
 use Rattle.s3_names.specs.declared.acl.Acl.{Acl}
 use Rattle.swift_calls.specs.Account.{SwiftAccount}
 use Rattle.swift_calls.specs.History.{History, present}
 use Rattle.account_calls.specs.declared.fault.PlanFault.{PlanFault}
 use Rattle.account_calls.specs.declared.fault.PlanFault.TheVariants.{Failed, Memory, Inconsistent}
+use Rattle.account_calls.specs.Answers.{beside_of, nothing_beside}
 use Rattle.account_calls.specs.Calls.{GivesUnchanged, IsStoredAs}
 use Rattle.account_calls.specs.Plan.{ended, reply_of}
 use Rattle.account_calls.specs.Refusals.{Unrefused, is_refusal}
 use Rattle.account_calls.specs.Told.{LeavesAccount}
 use Rattle.many_keys.specs.CopiedPart.{IsOfSource, OfCopiedSource}
 use Rattle.many_keys.specs.Copies.{CopiesStored, IsOfStored, OfStored, TellsCopied, body_due}
-use Rattle.many_keys.specs.Replies.{AnswersMany, is_many_reply}
+use Rattle.many_keys.specs.Replies.{AnswersCopy, is_copy_reply}
 
 -- ---- what is told
 
@@ -34,8 +42,8 @@ module _ (etag : List ℕ) (moment : ℕ) where
   told_unrefused (Ok reply) told = ap is_refusal told
   told_unrefused (Err fault) told = tt
 
-  pub told_kind : (end : Result Reply PlanFault) → TellsCopied etag moment end → AnswersMany end
-  told_kind (Ok reply) told = ap is_many_reply told
+  pub told_kind : (end : Result Reply PlanFault) → TellsCopied etag moment end → AnswersCopy end
+  told_kind (Ok reply) told = ap is_copy_reply told
   told_kind (Err fault) told = tt
 
 -- ---- what is read
@@ -73,14 +81,15 @@ copied_behind leaves on (Err fault) has = record { so = λ observable. tt }
 
 -- ---- by the operation
 
-pub of_copied : {h : History} {bucket key from_bucket from_key : List ℕ} {acl : Option Acl} {replaced : Option Replaced} {conditions : Conditions} (end : Result Reply PlanFault) → CopiesStored h from_bucket from_key end
-    → OfCopiedSource (op.CopyObject bucket key acl from_bucket from_key replaced conditions) h end
+-- of a copy nothing is asked of the account beside the state
+pub none_beside : (op : CopiesOp) → beside_of (OnCopies op) ≡ nothing_beside
+none_beside (copies_op.CopyObject copy) = refl
+none_beside (copies_op.CopyPart copy) = refl
+
+pub of_copied : {h : History} {bucket key from_bucket from_key : List ℕ} {acl : Option Acl} {replaced : Option Described} {conditions : Conditions} {only_if : OnlyIf} (end : Result Reply PlanFault) → CopiesStored h from_bucket from_key end
+    → OfCopiedSource (op.CopyObject bucket key acl from_bucket from_key replaced conditions only_if) h end
 of_copied (Ok reply) has = record { so = has.so }
 of_copied (Err fault) has = record { so = λ observable. tt }
-
-pub of_deletion : {h : History} {bucket : List ℕ} {keys : List (List ℕ)} {quiet : Bool} (end : Result Reply PlanFault) → OfCopiedSource (op.DeleteObjects bucket keys quiet) h end
-of_deletion (Ok reply) = record { so = λ observable. tt }
-of_deletion (Err fault) = record { so = λ observable. tt }
 
 pub of_part : {h : History} {bucket key id from_bucket from_key : List ℕ} {number : ℕ} {range : Option (ℕ × ℕ)} {conditions : Conditions} (end : Result Reply PlanFault)
     → OfCopiedSource (op.CopyPart bucket key id number from_bucket from_key range conditions) h end
@@ -89,28 +98,28 @@ of_part (Err fault) = record { so = λ observable. tt }
 
 -- what is said of no source is said of no operation
 unsaid : (operation : Op) (tree : SwiftAccount) (reply : Reply) → ((bucket key : List ℕ) → IsOfStored tree bucket key reply) → IsOfSource operation tree reply
-unsaid op.ListBuckets tree reply so = tt
-unsaid (op.CreateBucket bucket acl) tree reply so = tt
-unsaid (op.DeleteBucket bucket) tree reply so = tt
-unsaid (op.HeadBucket bucket) tree reply so = tt
-unsaid (op.GetLocation bucket) tree reply so = tt
-unsaid (op.GetBucketAcl bucket) tree reply so = tt
-unsaid (op.PutBucketAcl bucket acl) tree reply so = tt
-unsaid (op.ListObjects bucket asked) tree reply so = tt
-unsaid (op.PutObject bucket key acl content_type meta body) tree reply so = tt
-unsaid (op.GetObject bucket key range conditions) tree reply so = tt
-unsaid (op.HeadObject bucket key range conditions) tree reply so = tt
-unsaid (op.DeleteObject bucket key) tree reply so = tt
-unsaid (op.GetObjectAcl bucket key) tree reply so = tt
-unsaid (op.ListUploads bucket prefix key_marker id_marker max url) tree reply so = tt
-unsaid (op.CreateUpload bucket key acl content_type meta) tree reply so = tt
-unsaid (op.UploadPart bucket key id number body) tree reply so = tt
-unsaid (op.ListParts bucket key id marker max) tree reply so = tt
-unsaid (op.CompleteUpload bucket key id list) tree reply so = tt
-unsaid (op.AbortUpload bucket key id) tree reply so = tt
-unsaid (op.DeleteObjects bucket keys quiet) tree reply so = tt
-unsaid (op.CopyObject bucket key acl from_bucket from_key replaced conditions) tree reply so = so from_bucket from_key
-unsaid (op.CopyPart bucket key id number from_bucket from_key range conditions) tree reply so = tt
+unsaid (OnObjects objects_op.ListBuckets) tree reply so = tt
+unsaid (OnObjects (objects_op.CreateBucket made)) tree reply so = tt
+unsaid (OnObjects (objects_op.DeleteBucket bucket)) tree reply so = tt
+unsaid (OnObjects (objects_op.HeadBucket bucket)) tree reply so = tt
+unsaid (OnObjects (objects_op.GetLocation bucket)) tree reply so = tt
+unsaid (OnObjects (objects_op.GetBucketAcl bucket)) tree reply so = tt
+unsaid (OnObjects (objects_op.PutBucketAcl set)) tree reply so = tt
+unsaid (OnObjects (objects_op.ListObjects list)) tree reply so = tt
+unsaid (OnObjects (objects_op.PutObject put)) tree reply so = tt
+unsaid (op_as.GetObject read) tree reply so = tt
+unsaid (OnObjects (objects_op.HeadObject read)) tree reply so = tt
+unsaid (OnObjects (objects_op.DeleteObject deletion)) tree reply so = tt
+unsaid (OnObjects (objects_op.GetObjectAcl name)) tree reply so = tt
+unsaid (OnUploads (uploads_op.ListUploads list)) tree reply so = tt
+unsaid (OnUploads (uploads_op.CreateUpload start)) tree reply so = tt
+unsaid (OnUploads (uploads_op.UploadPart part)) tree reply so = tt
+unsaid (OnUploads (uploads_op.ListParts list)) tree reply so = tt
+unsaid (OnUploads (uploads_op.CompleteUpload done)) tree reply so = tt
+unsaid (OnUploads (uploads_op.AbortUpload upload)) tree reply so = tt
+unsaid (OnObjects (objects_op.DeleteObjects many)) tree reply so = tt
+unsaid (OnCopies (copies_op.CopyObject copy)) tree reply so = so copy.from_bucket copy.from_key
+unsaid (OnCopies (copies_op.CopyPart copy)) tree reply so = tt
 
 -- the reply, by the end of its plan
 pub source_reply : (operation : Op) (h : History) (end : Result Reply PlanFault) → OfCopiedSource operation h end → IsTrue h.observable → IsOfSource operation (present h) (reply_of end)

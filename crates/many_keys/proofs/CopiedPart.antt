@@ -17,16 +17,17 @@ use Rattle.s3_machine.specs.ETag.{body_etag}
 use Rattle.s3_machine.specs.Limits.{body_limit}
 use Rattle.s3_machine.specs.Reading.{taken}
 use Rattle.s3_machine.specs.State.{Bucket, Object, State}
-use Rattle.s3_machine.specs.Step.{S3Step, IsProperCopyRange, copies_bytes, copies_part, head_of, in_source}
+use Rattle.s3_machine.specs.Step.{S3Step, copies_bytes, copies_part, head_of, in_source}
+use Rattle.s3_machine.specs.Proper.{IsProperCopyRange}
 use Rattle.s3_machine.specs.Uploads.{new_part, on_upload, with_part}
 use Rattle.s3_machine.specs.declared.code.Code.TheVariants.{NoSuchBucket, NoSuchKey, NoSuchUpload, PreconditionFailed, InvalidRange, EntityTooLarge}
 use Rattle.s3_machine.specs.declared.operation.Label.{Label}
 use Rattle.s3_machine.specs.declared.operation.ObjectHead.{ObjectHead}
 use Rattle.s3_machine.specs.declared.operation.Settings.{Settings}
 use Rattle.s3_machine.specs.declared.operation.Op.{Op}
-use Rattle.s3_machine.specs.declared.operation.Op.TheVariants.{CopyPart}
+use Rattle.s3_machine.specs.Ops.{CopyPart}
 use Rattle.s3_machine.specs.declared.operation.Reply.{Reply}
-use Rattle.s3_machine.specs.declared.operation.Reply.TheVariants as reply
+use Rattle.s3_machine.specs.Replies as reply
 use Rattle.s3_machine.specs.declared.reading.Span.{Span}
 use Rattle.s3_machine.proofs.lemmas.CopyConditions.{part_copy_as_without}
 use Rattle.s3_machine.proofs.lemmas.StepLemmas.{HasSource, HasUpload, steps, in_found, part_copy_held, part_copy_without_bucket, part_copy_without_source_bucket, part_copy_without_source, part_copy_past_end, part_copy_too_large, step_part_copied}

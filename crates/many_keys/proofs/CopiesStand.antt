@@ -1,5 +1,5 @@
 -- What the last call of a copy leaves where it stands, over every observable store.
-use Rattle.std.specs.Prelude.{◌≡◌, ℕ, List, [], ◌∷◌, length, map, None, Some, Result, Ok, Err}
+use Rattle.std.specs.Prelude.{◌≡◌, ℕ, List, [], ◌∷◌, length, map, Some, Result, Ok, Err}
 use Rattle.std.proofs.Common.{refl, sym, ap, subst, ◌∙◌, arith}
 use Rattle.gate_base.specs.declared.page.Pair.{Pair}
 use Rattle.s3_machine.specs.ETag.{body_etag}

@@ -15,13 +15,15 @@ use Rattle.s3_names.specs.Meta.{names_ascend}
 use Rattle.s3_machine.specs.Conditions.{no_conditions}
 use Rattle.s3_machine.specs.Copies.{copied, is_onto_itself}
 use Rattle.s3_machine.specs.State.{Object}
-use Rattle.s3_machine.specs.Step.{IsPlace, IsProperReplaced, head_of, is_other_acl}
+use Rattle.s3_machine.specs.Step.{head_of, is_other_acl}
+use Rattle.s3_machine.specs.Proper.{IsPlace, IsProperDescribed}
 use Rattle.s3_machine.specs.Uploads.{most_parts, rises_from}
 use Rattle.s3_machine.specs.declared.operation.Label.{Label}
 use Rattle.s3_machine.specs.declared.operation.ObjectHead.{ObjectHead}
 use Rattle.s3_machine.specs.declared.operation.Op.{Op}
-use Rattle.s3_machine.specs.declared.operation.Op.TheVariants.{CopyObject}
-use Rattle.s3_machine.specs.declared.operation.Replaced.{Replaced}
+use Rattle.s3_machine.specs.declared.only_if.OnlyIf.TheVariants.{Always}
+use Rattle.s3_machine.specs.Ops.{CopyObject}
+use Rattle.s3_machine.specs.declared.operation.Described.{Described}
 use Rattle.s3_machine.specs.declared.operation.Reply.{Reply}
 use Rattle.s3_machine.specs.declared.operation.Settings.{Settings}
 use Rattle.slo_manifest.specs.declared.manifest.TheConstants.{MOST_SEGMENTS}
@@ -106,8 +108,8 @@ sized_cut size cut walked same is = subst (λ (l : List Piece). is_cut (size_of_
 pub none_is_well : (list : List SealedPart) → list ≡ [] → IsListWell list
 none_is_well list none = subst IsListWell (sym none) (record { few = omega arith; proper = refl; ascends = refl })
 
-pub is_copy : {s : Sealed} {bucket key : List ℕ} {id : ℕ} (replaced : Option Replaced) {head : ObjectHead} {list : List SealedPart} {moment : ℕ} → s ≡ sealed_copy bucket key id replaced head list moment → IsPlace bucket key → s.id < 2 ^ 128
-    → IsProperReplaced (record { content_type = s.content_type; meta = s.meta }) → names_ascend s.meta ≡ true → IsProperHead head → 32 < length head.etag → IsListWell list → moment < moment_limit → IsCopy s
+pub is_copy : {s : Sealed} {bucket key : List ℕ} {id : ℕ} (replaced : Option Described) {head : ObjectHead} {list : List SealedPart} {moment : ℕ} → s ≡ sealed_copy bucket key id replaced head list moment → IsPlace bucket key → s.id < 2 ^ 128
+    → IsProperDescribed (record { content_type = s.content_type; meta = s.meta }) → names_ascend s.meta ≡ true → IsProperHead head → 32 < length head.etag → IsListWell list → moment < moment_limit → IsCopy s
 is_copy replaced e place fits content ordered head of_parts well below = record {
   place = subst (λ (t : Sealed). IsPlace t.bucket t.key) (sym e) place;
   fits = fits;
@@ -132,7 +134,7 @@ lists_parts size {s = s} {list = list} {cut = cut} e copy same is are =
     copy_has_text s copy (λ none. let empty = ap length none in let of_list : length s.list ≡ length list = ap length e in omega (arith, empty, of_list, long, some))
 
 -- it is the copy of the source, where its parts have the source's bytes
-abbrev object_as : Option Replaced → ObjectHead → List ℕ → ℕ → Object
+abbrev object_as : Option Described → ObjectHead → List ℕ → ℕ → Object
 object_as replaced head bytes moment = record {
   bytes = bytes;
   etag = head.etag;
@@ -141,11 +143,11 @@ object_as replaced head bytes moment = record {
   modified = moment;
 }
 
-copy_is : (replaced : Option Replaced) (o : Object) (head : ObjectHead) (bytes : List ℕ) (moment : ℕ) → head_of o ≡ head → bytes ≡ o.bytes → object_as replaced head bytes moment ≡ copied replaced moment o
+copy_is : (replaced : Option Described) (o : Object) (head : ObjectHead) (bytes : List ℕ) (moment : ℕ) → head_of o ≡ head → bytes ≡ o.bytes → object_as replaced head bytes moment ≡ copied replaced moment o
 copy_is None o head bytes moment e same = λ i. object_as None (sym e i) (same i) moment
 copy_is (Some r) o head bytes moment e same = λ i. object_as (Some r) (sym e i) (same i) moment
 
-module _ (bucket key : List ℕ) (acl : Acl) (id : ℕ) (from_bucket from_key : List ℕ) (replaced : Option Replaced) (head : ObjectHead) (list : List SealedPart) (moment : ℕ) where
+module _ (bucket key : List ℕ) (acl : Acl) (id : ℕ) (from_bucket from_key : List ℕ) (replaced : Option Described) (head : ObjectHead) (list : List SealedPart) (moment : ℕ) where
   abbrev as_put : Sealed
   as_put = sealed_copy bucket key id replaced head list moment
 
@@ -249,15 +251,15 @@ asked_in_vain {T = T} m within {f = f} under asks end is = calls_in_vain {P = λ
 
 -- what the last call amounts to, for any copy that it may be
 abbrev pub PutsListed : History → History → Settings → Result Reply PlanFault → Sealed → Type 0
-PutsListed b c now end s = (acl : Option Acl) (list : Acl) (from_bucket from_key : List ℕ) (replaced : Option Replaced) (label : Label) → is_other_acl acl list ≡ false
+PutsListed b c now end s = (acl : Option Acl) (list : Acl) (from_bucket from_key : List ℕ) (replaced : Option Described) (label : Label) → is_other_acl acl list ≡ false
     → is_onto_itself s.bucket s.key from_bucket from_key replaced ≡ false → s.moment ≡ label.moment
-    → Plans (always 1) b c now (GivenOf (MayPut list from_bucket from_key replaced s (sealed_sub_manifests s))) (CopyObject s.bucket s.key acl from_bucket from_key replaced no_conditions) label Settled end
+    → Plans (always 1) b c now (GivenOf (MayPut list from_bucket from_key replaced s (sealed_sub_manifests s))) (CopyObject s.bucket s.key acl from_bucket from_key replaced no_conditions Always) label Settled end
 
 -- and that with the sub-manifests before it
 abbrev pub PutsParts : History → History → Settings → Result Reply PlanFault → Sealed → Type 0
-PutsParts b c now end s = (acl : Option Acl) (list : Acl) (from_bucket from_key : List ℕ) (replaced : Option Replaced) (label : Label) → is_other_acl acl list ≡ false
+PutsParts b c now end s = (acl : Option Acl) (list : Acl) (from_bucket from_key : List ℕ) (replaced : Option Described) (label : Label) → is_other_acl acl list ≡ false
     → is_onto_itself s.bucket s.key from_bucket from_key replaced ≡ false → s.moment ≡ label.moment
-    → Plans (always (sealed_sub_manifests s + 1)) b c now (GivenOf (MayPut list from_bucket from_key replaced s 0)) (CopyObject s.bucket s.key acl from_bucket from_key replaced no_conditions) label Settled end
+    → Plans (always (sealed_sub_manifests s + 1)) b c now (GivenOf (MayPut list from_bucket from_key replaced s 0)) (CopyObject s.bucket s.key acl from_bucket from_key replaced no_conditions Always) label Settled end
 
 abbrev Found : List ℕ → Acl → List ℕ → List ℕ → ObjectHead → SwiftAccount → Type 0
 Found bucket list from_bucket from_key head tree = IsFoundSource bucket list from_bucket from_key head (s3_state tree)
@@ -368,14 +370,14 @@ few_subs s n as_many =
 with_bytes : Sealed → List ℕ → Object
 with_bytes s bytes = record { bytes = bytes; etag = s.etag; content_type = s.content_type; meta = s.meta; modified = s.moment }
 
-may_put_of : {list : Acl} {from_bucket from_key : List ℕ} {replaced : Option Replaced} {s : Sealed} {n : ℕ} (tree : SwiftAccount) → MayPut list from_bucket from_key replaced s n tree → HasCopied s n tree
+may_put_of : {list : Acl} {from_bucket from_key : List ℕ} {replaced : Option Described} {s : Sealed} {n : ℕ} (tree : SwiftAccount) → MayPut list from_bucket from_key replaced s n tree → HasCopied s n tree
 may_put_of tree may = may.copy.stands
 
-module _ (s : Sealed) {settings : Settings} (acl : Option Acl) (list : Acl) (from_bucket from_key : List ℕ) (replaced : Option Replaced) (label : Label) where
+module _ (s : Sealed) {settings : Settings} (acl : Option Acl) (list : Acl) (from_bucket from_key : List ℕ) (replaced : Option Described) (label : Label) where
   -- they were put, and the copy's file is
   pub subs_go_on : {a b c : History} {now : Settings} {end : Result Reply PlanFault} → now ≡ settings → Asks (always (sealed_sub_manifests s)) a b (GivenOf (HasCopied s 0)) (LeavesCopied s (sealed_sub_manifests s)) (Ok tt)
-      → Plans (always 1) b c now (GivenOf (MayPut list from_bucket from_key replaced s (sealed_sub_manifests s))) (CopyObject s.bucket s.key acl from_bucket from_key replaced no_conditions) label Settled end
-      → Plans (always (sealed_sub_manifests s + 1)) a c settings (GivenOf (MayPut list from_bucket from_key replaced s 0)) (CopyObject s.bucket s.key acl from_bucket from_key replaced no_conditions) label Settled end
+      → Plans (always 1) b c now (GivenOf (MayPut list from_bucket from_key replaced s (sealed_sub_manifests s))) (CopyObject s.bucket s.key acl from_bucket from_key replaced no_conditions Always) label Settled end
+      → Plans (always (sealed_sub_manifests s + 1)) a c settings (GivenOf (MayPut list from_bucket from_key replaced s 0)) (CopyObject s.bucket s.key acl from_bucket from_key replaced no_conditions Always) label Settled end
   unfolding with_bytes
   subs_go_on kept asks plans =
       goes_on_from {given = MayPut list from_bucket from_key replaced s 0} (met_within may_put_of) kept (asks_same_state asks) plans
@@ -392,19 +394,19 @@ module _ (s : Sealed) {settings : Settings} (acl : Option Acl) (list : Acl) (fro
 
   -- they weren't
   pub subs_in_vain : {a b : History} {f : PlanFault} → Asks (always (sealed_sub_manifests s)) a b (GivenOf (HasCopied s 0)) (LeavesCopied s (sealed_sub_manifests s)) (Err f) → (end : Result Reply PlanFault) → IsErrAnd end (λ e. e ≡ f)
-      → Plans (always (sealed_sub_manifests s + 1)) a b settings (GivenOf (MayPut list from_bucket from_key replaced s 0)) (CopyObject s.bucket s.key acl from_bucket from_key replaced no_conditions) label Settled end
+      → Plans (always (sealed_sub_manifests s + 1)) a b settings (GivenOf (MayPut list from_bucket from_key replaced s 0)) (CopyObject s.bucket s.key acl from_bucket from_key replaced no_conditions Always) label Settled end
   subs_in_vain asks end is = asked_in_vain (always (sealed_sub_manifests s)) (omega arith) (met_within may_put_of) asks end is
 
 -- ---- the last call
 
-module _ (bucket key from_bucket from_key : List ℕ) (acl : Option Acl) (list : Acl) (replaced : Option Replaced) (head : ObjectHead) (label : Label) (other : is_other_acl acl list ≡ false)
+module _ (bucket key from_bucket from_key : List ℕ) (acl : Option Acl) (list : Acl) (replaced : Option Described) (head : ObjectHead) (label : Label) (other : is_other_acl acl list ≡ false)
     (onto : is_onto_itself bucket key from_bucket from_key replaced ≡ false) {settings : Settings} where
   -- the segments were copied, and the copy is put
   pub copy_goes_on : {id : ℕ} (cut : Cut) {walked : List Piece} {a b c : History} {now : Settings} {s : Sealed} (parts : List SealedPart) {end : Result Reply PlanFault} → walked ≡ cut.pieces → now ≡ settings
       → AreOfCut walked parts
       → Asks (always (2 * length walked)) a b (GivenOf (MayCopy bucket id from_bucket cut.id walked)) (CopiesFirst bucket id from_bucket cut.id walked label.moment) (Ok parts)
       → s ≡ sealed_copy bucket key id replaced head parts label.moment → PutsParts b c now end s
-      → Plans (always (2 * length cut.pieces + (sub_manifests (length cut.pieces) + 1))) a c settings (GivenOf (MayFillCut bucket list id from_bucket from_key head cut)) (CopyObject bucket key acl from_bucket from_key replaced no_conditions) label Settled end
+      → Plans (always (2 * length cut.pieces + (sub_manifests (length cut.pieces) + 1))) a c settings (GivenOf (MayFillCut bucket list id from_bucket from_key head cut)) (CopyObject bucket key acl from_bucket from_key replaced no_conditions Always) label Settled end
   copy_goes_on {id = id} cut {walked = walked} {a = a} {b = b} {c = c} {now = now} parts {end = end} same kept are asks e puts =
       let here : Asks (always (2 * length cut.pieces)) a b (GivenOf (MayCopy bucket id from_bucket cut.id cut.pieces)) (CopiesFirst bucket id from_bucket cut.id cut.pieces label.moment) (Ok parts)
       = subst (λ l. Asks (always (2 * length l)) a b (GivenOf (MayCopy bucket id from_bucket cut.id l)) (CopiesFirst bucket id from_bucket cut.id l label.moment) (Ok parts)) same asks in
@@ -416,7 +418,7 @@ module _ (bucket key from_bucket from_key : List ℕ) (acl : Option Acl) (list :
   pub id_puts : {draw n id : ℕ} {a b c : History} {now : Settings} {s : Sealed} (parts : List SealedPart) {end : Result Reply PlanFault} → UnusedIsAbandoned → is_bucket bucket ≡ true → now ≡ settings
       → Asks (by_account n) a b (GivenOf (InBucket bucket)) (TellsOf (TellsFree bucket draw)) (Ok id) → head.size ≡ 0 → parts ≡ []
       → s ≡ sealed_copy bucket key id replaced head parts label.moment → PutsListed b c now end s
-      → Plans (by_account (n + 1)) a c settings (Given (IsFoundSource bucket list from_bucket from_key head)) (CopyObject bucket key acl from_bucket from_key replaced no_conditions) label Settled end
+      → Plans (by_account (n + 1)) a c settings (Given (IsFoundSource bucket list from_bucket from_key head)) (CopyObject bucket key acl from_bucket from_key replaced no_conditions Always) label Settled end
   id_puts {id = id} {b = b} {c = c} {now = now} parts {end = end} law is kept asks empty none e puts =
       goes_on_from {given = Found bucket list from_bucket from_key head} (λ met. met) kept (asks_unnamed law is asks) (subst (PutsListed b c now end) e puts acl list from_bucket from_key replaced label other onto refl)
       (λ found told. empty_may_put bucket key list id from_bucket from_key replaced head parts label.moment _ empty none (fill_after found told)) (λ told. omega arith)

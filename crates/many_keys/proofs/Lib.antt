@@ -1,14 +1,13 @@
-pub mod Alike
 pub mod CopiedFrom
 pub mod CopiedPart
 pub mod CopiedSubs
 pub mod CopiesStand
+pub mod CopyConditions
 pub mod CopyPlans
 pub mod CopySteps
 pub mod Copying
 pub mod CutCalls
 pub mod Cuts
-pub mod Deleting
 pub mod OwnSegments
 pub mod PieceCalls
 pub mod PutsCopy
@@ -18,4 +17,3 @@ pub mod ReplyKinds
 pub mod Runs
 pub mod SideFiles
 pub mod Sources
-pub mod Stages

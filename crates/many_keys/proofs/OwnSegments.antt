@@ -21,7 +21,8 @@ use Rattle.swift_calls.specs.declared.account.Content.TheVariants.{Plain, Segmen
 use Rattle.swift_calls.specs.declared.calls.SwiftReply.{SwiftReply}
 use Rattle.swift_calls.specs.declared.calls.SwiftFault.{SwiftFault}
 use Rattle.swift_calls.specs.declared.calls.SwiftRequest.{SwiftRequest}
-use Rattle.swift_calls.specs.declared.calls.SwiftRequest.TheVariants.{PutObject, PutManifest}
+use Rattle.swift_calls.specs.Files.{PutObject}
+use Rattle.swift_calls.specs.declared.calls.SwiftRequest.TheVariants.{PutManifest}
 use Rattle.swift_marks.specs.Pack.{pack_of}
 use Rattle.swift_marks.specs.Tag.{tag_text}
 use Rattle.upload_texts.specs.declared.sealed.Sealed.{Sealed}
@@ -39,7 +40,7 @@ use Rattle.account_calls.proofs.lemmas.One.{stays_so}
 use Rattle.account_calls.proofs.lemmas.Puts.{if_done}
 use Rattle.upload_calls.specs.Interpret.{put_part_of}
 use Rattle.many_keys.specs.CopiedLists.{AreOfCut, piece_in, is_cut, size_of_cut}
-use Rattle.many_keys.specs.OwnSegments.{HasOwnSegments, KeepsAllBut, KeepsOutside, KeepsSegments, LeavesOutside, PutsWithSubs, PutsOwn, PutsSubs, StandSegments, StandSubs, StandsSegment}
+use Rattle.many_keys.specs.OwnSegments.{HasOwnSegments, KeepsAllBut, KeepsSegments, LeavesOutside, PutsWithSubs, PutsOwn, PutsSubs, StandSegments, StandSubs, StandsSegment}
 use Rattle.many_keys.specs.declared.cut.Piece.{Piece}
 use Rattle.many_keys.proofs.CutCalls.{segment_number}
 use Rattle.many_keys.proofs.Copying.{Copying, piece_at, same_below}
@@ -110,14 +111,15 @@ module _ {a b : History} {bucket : List ℕ} {id number moment : ℕ} where
       → PutsOwn bucket id number moment a b result
   own_failed f result is keeps = subst (PutsOwn bucket id number moment a b) (sym (err_is result f is)) (record { keeps = keeps; stands = λ observable. tt })
 
-pub own_put : {a b : History} {bucket : List ℕ} {id : ℕ} (body : List ℕ) {moment : ℕ} (part : SealedPart) → part.size ≡ length body → part.etag ≡ body_etag body
-    → (IsTrue a.observable → KeepsAllBut (segments_name bucket) (segment_name (id_digits id) part.number) (present a) (present b))
-    → (result : Result SealedPart PlanFault) → IfOk result (λ told. told ≡ part) → Stands b (put_part_of bucket id part.number body moment) result → PutsOwn bucket id part.number moment a b result
-own_put {b = b} {bucket = bucket} {id = id} body {moment = moment} part size etag keeps (Ok told) is stands = record {
+pub own_put : {a b : History} {bucket : List ℕ} {id number : ℕ} (body : List ℕ) {moment : ℕ} (part : SealedPart) → part.number ≡ number → part.size ≡ length body → part.etag ≡ body_etag body
+    → (IsTrue a.observable → KeepsAllBut (segments_name bucket) (segment_name (id_digits id) number) (present a) (present b))
+    → (result : Result SealedPart PlanFault) → IfOk result (λ told. told ≡ part) → Stands b (put_part_of bucket id number body moment) result → PutsOwn bucket id number moment a b result
+own_put {b = b} {bucket = bucket} {id = id} body {moment = moment} part numbered size etag keeps (Ok told) is stands = record {
   keeps = keeps;
-  stands = λ observable. subst (λ p. StandsSegment bucket id moment p (present b)) (sym is) (record { body = body; etag = etag; size = size; stands = stands.so observable });
+  stands = λ observable. subst (λ p. StandsSegment bucket id moment p (present b)) (sym is)
+      (record { body = body; etag = etag; size = size; stands = subst (λ n. StandsIn (present b) (put_part_of bucket id n body moment)) (sym numbered) (stands.so observable) });
 }
-own_put body part size etag keeps (Err fault) is stands = record { keeps = keeps; stands = λ observable. tt }
+own_put body part numbered size etag keeps (Err fault) is stands = record { keeps = keeps; stands = λ observable. tt }
 
 -- behind a call that left the account
 pub own_behind : {a b c : History} {bucket : List ℕ} {id number moment : ℕ} {result : Result SealedPart PlanFault} → LeavesAccount a b → (IsTrue a.observable → IsTrue b.observable)

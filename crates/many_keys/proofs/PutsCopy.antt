@@ -8,7 +8,7 @@ use Rattle.gate_base.specs.Told.{moment_limit}
 use Rattle.s3_machine.specs.Uploads.{most_parts}
 use Rattle.slo_manifest.specs.declared.Segment.{Segment}
 use Rattle.swift_calls.specs.Step.{Fit, IsSegmentPlace}
-use Rattle.swift_calls.specs.declared.calls.SwiftRequest.TheVariants.{PutObject}
+use Rattle.swift_calls.specs.Files.{PutObject}
 use Rattle.swift_marks.specs.Pack.{pack_of}
 use Rattle.swift_marks.specs.Tag.{has_text, tag_text}
 use Rattle.swift_marks.proofs.lemmas.FieldLaws.{tag_is_field}

@@ -1,7 +1,7 @@
 -- What the PUT of a copy's file does to the state, and the step that it is.
 use Rattle.std.specs.Prelude.{◌≡◌, ◌<◌, ℕ, true, false, List, length, Option, None, Some}
 use Rattle.std.specs.FinMap.{get}
-use Rattle.std.proofs.Common.{refl, sym, ap, subst, ◌∙◌, arith}
+use Rattle.std.proofs.Common.{refl, sym, ap, subst, ◌∙◌}
 use Rattle.gate_base.proofs.lemmas.Maps.{some_value}
 use Rattle.gate_base.specs.Maps.{adjust}
 use Rattle.s3_names.specs.Id.{id_digits}
@@ -12,9 +12,10 @@ use Rattle.s3_machine.specs.State.{Object, State}
 use Rattle.s3_machine.specs.Step.{S3Step, is_other_acl}
 use Rattle.s3_machine.specs.Step as machine
 use Rattle.s3_machine.specs.declared.operation.Label.{Label}
-use Rattle.s3_machine.specs.declared.operation.Op.TheVariants.{CopyObject}
-use Rattle.s3_machine.specs.declared.operation.Replaced.{Replaced}
-use Rattle.s3_machine.specs.declared.operation.Reply.TheVariants.{Copied}
+use Rattle.s3_machine.specs.declared.only_if.OnlyIf.TheVariants.{Always}
+use Rattle.s3_machine.specs.Ops.{CopyObject}
+use Rattle.s3_machine.specs.declared.operation.Described.{Described}
+use Rattle.s3_machine.specs.Replies.{Copied}
 use Rattle.s3_machine.specs.declared.operation.Settings.{Settings}
 use Rattle.swift_calls.specs.Account.{SwiftContainer, SwiftAccount, files, find_object, put_file}
 use Rattle.swift_calls.specs.Bodies.{etag_of, is_good_list}
@@ -44,7 +45,7 @@ use Rattle.many_keys.proofs.PutsCopy.{copy_segments, copy_stored, tag_has_text}
 
 -- ---- what it does to the state
 
-module _ (from_bucket from_key : List ℕ) (replaced : Option Replaced) (s : Sealed) (is : IsCopy s) where
+module _ (from_bucket from_key : List ℕ) (replaced : Option Described) (s : Sealed) (is : IsCopy s) where
   module _ (tree : SwiftAccount) (sound : IsConsistent tree) (settled : IsSettled tree) (has : HasCopy from_bucket from_key replaced s (sealed_sub_manifests s) tree) where
     may_stand : MayStand (files tree (segments_name s.bucket)) s
     may_stand = record {
@@ -108,22 +109,22 @@ module _ (from_bucket from_key : List ℕ) (replaced : Option Replaced) (s : Sea
 -- ---- the step that it is
 
 -- a copy has its source's ETag
-etag_kept : (replaced : Option Replaced) (moment : ℕ) (o : Object) → (copied replaced moment o).etag ≡ o.etag
+etag_kept : (replaced : Option Described) (moment : ℕ) (o : Object) → (copied replaced moment o).etag ≡ o.etag
 etag_kept None moment o = refl
 etag_kept (Some r) moment o = refl
 
 same_some : (x y : Object) → Some x ≡ Some y → x ≡ y
 same_some x y e = cc
 
-pub copy_steps : (settings : Settings) (acl : Option Acl) (list : Acl) (from_bucket from_key : List ℕ) (replaced : Option Replaced) (label : Label) (s : Sealed) (etag : List ℕ) → is_other_acl acl list ≡ false
+pub copy_steps : (settings : Settings) (acl : Option Acl) (list : Acl) (from_bucket from_key : List ℕ) (replaced : Option Described) (label : Label) (s : Sealed) (etag : List ℕ) → is_other_acl acl list ≡ false
     → is_onto_itself s.bucket s.key from_bucket from_key replaced ≡ false → s.moment ≡ label.moment → etag ≡ s.etag → (tree : SwiftAccount) (told : Unit {0}) (new : State) → MayPut list from_bucket from_key replaced s (sealed_sub_manifests s) tree
     → CopiesObject s.bucket s.key from_bucket from_key replaced s.moment told (s3_state tree) new
-    → S3Step settings (s3_state tree) (CopyObject s.bucket s.key acl from_bucket from_key replaced no_conditions) label (Copied false etag s.moment) new
+    → S3Step settings (s3_state tree) (CopyObject s.bucket s.key acl from_bucket from_key replaced no_conditions Always) label (Copied false etag s.moment) new
 copy_steps settings acl list from_bucket from_key replaced label s etag same other dated tagged tree told new may does =
     let o : Object = does.object in
     let step = of_source settings (s3_state tree) s.bucket s.key acl from_bucket from_key replaced label list may.listed same o does.found other in
-    let then : S3Step settings (s3_state tree) (CopyObject s.bucket s.key acl from_bucket from_key replaced no_conditions) label (Copied false o.etag s.moment) (adjust s.bucket (machine.put_object s.key (copied replaced s.moment o)) (s3_state tree)) =
-    subst (λ m. S3Step settings (s3_state tree) (CopyObject s.bucket s.key acl from_bucket from_key replaced no_conditions) label (Copied false o.etag m) (adjust s.bucket (machine.put_object s.key (copied replaced m o)) (s3_state tree))) (sym dated) step in
+    let then : S3Step settings (s3_state tree) (CopyObject s.bucket s.key acl from_bucket from_key replaced no_conditions Always) label (Copied false o.etag s.moment) (adjust s.bucket (machine.put_object s.key (copied replaced s.moment o)) (s3_state tree)) =
+    subst (λ m. S3Step settings (s3_state tree) (CopyObject s.bucket s.key acl from_bucket from_key replaced no_conditions Always) label (Copied false o.etag m) (adjust s.bucket (machine.put_object s.key (copied replaced m o)) (s3_state tree))) (sym dated) step in
     let is_one : o ≡ may.copy.object = same_some o may.copy.object (sym does.found ∙ may.copy.found) in
     let is_etag : o.etag ≡ etag = ap (λ (x : Object). x.etag) is_one ∙ sym (etag_kept replaced s.moment may.copy.object) ∙ sym (ap (λ (x : Object). x.etag) may.copy.same) ∙ sym tagged in
-    subst {A = List ℕ × State} (λ e. S3Step settings (s3_state tree) (CopyObject s.bucket s.key acl from_bucket from_key replaced no_conditions) label (Copied false e.0 s.moment) e.1) (λ i. (is_etag i, sym does.made i)) then
+    subst {A = List ℕ × State} (λ e. S3Step settings (s3_state tree) (CopyObject s.bucket s.key acl from_bucket from_key replaced no_conditions Always) label (Copied false e.0 s.moment) e.1) (λ i. (is_etag i, sym does.made i)) then

@@ -13,7 +13,7 @@ use Rattle.s3_machine.specs.ETag.{body_etag}
 use Rattle.s3_machine.specs.State.{Bucket, Object}
 use Rattle.swift_calls.specs.Account.{SwiftObject, SwiftContainer, SwiftAccount, files, files_of, on_files}
 use Rattle.swift_calls.specs.Step.{put_object, swift_step}
-use Rattle.swift_calls.specs.declared.calls.SwiftRequest.TheVariants.{PutObject}
+use Rattle.swift_calls.specs.Files.{PutObject}
 use Rattle.swift_marks.specs.Tag.{has_text}
 use Rattle.upload_records.specs.Consistent.{IsThere}
 use Rattle.upload_records.specs.Laws.{IsNameUnder, file_put, of_part, of_sub_manifest}

@@ -12,10 +12,11 @@ use Rattle.s3_names.specs.declared.acl.Acl.{Acl}
 use Rattle.s3_machine.specs.Copies.{copied}
 use Rattle.s3_machine.specs.Limits.{is_content_type, is_proper_meta, most_body_bytes}
 use Rattle.s3_machine.specs.State.{Object, Part, State}
-use Rattle.s3_machine.specs.Step.{IsPlace, put_object}
+use Rattle.s3_machine.specs.Step.{put_object}
+use Rattle.s3_machine.specs.Proper.{IsPlace}
 use Rattle.s3_machine.specs.Uploads.{greatest_part, most_parts, rises_from}
 use Rattle.s3_machine.specs.declared.operation.ObjectHead.{ObjectHead}
-use Rattle.s3_machine.specs.declared.operation.Replaced.{Replaced}
+use Rattle.s3_machine.specs.declared.operation.Described.{Described}
 use Rattle.slo_manifest.specs.declared.Segment.{Segment}
 use Rattle.swift_calls.specs.Account.{SwiftObject, SwiftAccount, files, find_object}
 use Rattle.swift_calls.specs.Bodies.{etag_text, plain_bytes}
@@ -270,7 +271,7 @@ pub record CopiesFirst (bucket : List ℕ) (id : ℕ) (from_bucket : List ℕ) (
 -- ---- the copy
 
 -- what is put as the copy, under a new id: with the source's ETag, and as of the moment of the copy
-abbrev pub sealed_copy : List ℕ → List ℕ → ℕ → Option Replaced → ObjectHead → List SealedPart → ℕ → Sealed
+abbrev pub sealed_copy : List ℕ → List ℕ → ℕ → Option Described → ObjectHead → List SealedPart → ℕ → Sealed
 sealed_copy bucket key id replaced head list moment = record {
   bucket = bucket;
   key = key;
@@ -311,14 +312,14 @@ pub record LeavesCopied (s : Sealed) (n : ℕ) (old new : SwiftAccount) (done : 
   pub same : sealed_bytes (files new (segments_name s.bucket)) (id_digits s.id) s.list ≡ sealed_bytes (files old (segments_name s.bucket)) (id_digits s.id) s.list
 
 -- and it is the copy of the source
-pub record HasCopy (from_bucket from_key : List ℕ) (replaced : Option Replaced) (s : Sealed) (n : ℕ) (tree : SwiftAccount) : Type 0 where
+pub record HasCopy (from_bucket from_key : List ℕ) (replaced : Option Described) (s : Sealed) (n : ℕ) (tree : SwiftAccount) : Type 0 where
   pub stands : HasCopied s n tree
   pub object : Object
   pub found : object_at (get (s3_state tree) from_bucket) from_key ≡ Some object
   pub same : sealed_object (files tree (segments_name s.bucket)) s ≡ copied replaced s.moment object
 
 -- the copy of the source is put
-pub record CopiesObject (bucket key from_bucket from_key : List ℕ) (replaced : Option Replaced) (moment : ℕ) (done : Unit {0}) (old new : State) : Type 0 where
+pub record CopiesObject (bucket key from_bucket from_key : List ℕ) (replaced : Option Described) (moment : ℕ) (done : Unit {0}) (old new : State) : Type 0 where
   pub object : Object
   pub found : object_at (get old from_bucket) from_key ≡ Some object
   pub made : new ≡ adjust bucket (put_object key (copied replaced moment object)) old
@@ -342,6 +343,6 @@ pub record MayFillCut (bucket : List ℕ) (acl : Acl) (id : ℕ) (from_bucket fr
   pub has : HasCut bucket acl from_bucket from_key head cut tree
 
 -- the copy may be put, whose first sub-manifests are there
-pub record MayPut (acl : Acl) (from_bucket from_key : List ℕ) (replaced : Option Replaced) (s : Sealed) (n : ℕ) (tree : SwiftAccount) : Type 0 where
+pub record MayPut (acl : Acl) (from_bucket from_key : List ℕ) (replaced : Option Described) (s : Sealed) (n : ℕ) (tree : SwiftAccount) : Type 0 where
   pub listed : TellsBucket s.bucket (s3_state tree) (Some acl)
   pub copy : HasCopy from_bucket from_key replaced s n tree

@@ -1,12 +1,13 @@
 -- What the calls of a copy told of its source, and what the copy is put with. Source: Amazon S3 API Reference, "CopyObject", and
 -- this profile.
+use Rattle.s3_machine.specs.declared.operation.Reply.TheVariants as reply_as
 use Rattle.std.specs.Prelude.{◌≡◌, ◌≤◌, ◌<◌, ◌==◌, ◌^◌, ℕ, Bool, true, false, IsTrue, IfOk, ◌&&◌, if◌then◌else◌, nat_le, bytes_eq, List, length, Option, None, Some, Result, Ok, Err}
 use Rattle.gate_base.specs.declared.page.Pair.{Pair}
 use Rattle.s3_names.specs.declared.acl.Acl.{Acl}
 use Rattle.s3_machine.specs.declared.operation.ObjectHead.{ObjectHead}
-use Rattle.s3_machine.specs.declared.operation.Replaced.{Replaced}
+use Rattle.s3_machine.specs.declared.operation.Described.{Described}
 use Rattle.s3_machine.specs.declared.operation.Reply.{Reply}
-use Rattle.s3_machine.specs.declared.operation.Reply.TheVariants.{Copied}
+use Rattle.s3_machine.specs.Replies.{Copied}
 use Rattle.s3_machine.specs.ETag.{body_etag}
 use Rattle.s3_machine.specs.Limits.{is_content_type, is_proper_meta, most_body_bytes}
 use Rattle.s3_machine.specs.State.{State}
@@ -55,7 +56,7 @@ OfStored h bucket key etag size result = IsTrue h.observable → IfOk result (λ
 
 -- a copy of an object that was put in one piece is of a file that is what its tag says, of an object with the ETag that is replied
 abbrev pub IsOfStored : SwiftAccount → List ℕ → List ℕ → Reply → Type 0
-IsOfStored tree bucket key (Copied part etag modified) = length etag ≤ 32 → (size : ℕ) × IsStoredAs tree bucket key etag size
+IsOfStored tree bucket key (reply_as.Copied copied) = length copied.etag ≤ 32 → (size : ℕ) × IsStoredAs tree bucket key copied.etag size
 IsOfStored tree bucket key reply = Unit {0}
 
 -- so is what a plan, or the rest of one, copied: the file stood as its calls began
@@ -89,6 +90,6 @@ pub record IsReadSource (bucket : List ℕ) (acl : Acl) (from_bucket from_key : 
 -- ---- what is put
 
 -- what a copy is put with: with what is given in place of the source's, or with the content type and the metadata of its source
-abbrev pub content_of : Option Replaced → List ℕ → List Pair → Replaced
+abbrev pub content_of : Option Described → List ℕ → List Pair → Described
 content_of None content_type meta = record { content_type = content_type; meta = meta }
 content_of (Some replaced) content_type meta = replaced

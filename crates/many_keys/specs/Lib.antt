@@ -1,6 +1,6 @@
 pub mod CopiedLists
 pub mod CopiedPart
 pub mod Copies
-pub mod Deletions
+pub mod ObjectCopy
 pub mod OwnSegments
 pub mod Replies

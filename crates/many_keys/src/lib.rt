@@ -1,12 +1,12 @@
-//! The plans of operations on many keys at once: which calls of the store answer each, and in which order.
+//! The plans of the copies: which calls of the store answer each, and in which order.
 #![tactic(auto)]
 
 mod copied_part;
 mod copies;
 mod cut;
-mod deletions;
 mod listed;
 mod manifests;
+mod object_copy;
 mod operation;
 mod segments;
 mod source;

@@ -1,14 +1,15 @@
 //! The plan of the copy of an object that was completed from parts.
-ghost use Rattle.std.specs.Prelude.{◌≡◌, ◌<◌, ◌+◌, ◌*◌, ◌^◌, [], ℕ, List, Option, false, true, length, IfOk, IfSome};
-ghost use Rattle.gate_base.specs.Told.{moment_limit};
+ghost use Rattle.std.specs.Prelude.{◌≡◌, ◌<◌, ◌+◌, ◌*◌, ◌^◌, [], ℕ, List, Option, false, true, length, IfOk};
 ghost use Rattle.s3_names.specs.declared.acl.Acl.{Acl};
 ghost use Rattle.s3_names.specs.Meta.{names_ascend};
 ghost use Rattle.s3_machine.specs.Conditions.{no_conditions};
 ghost use Rattle.s3_machine.specs.Copies.{is_onto_itself};
-ghost use Rattle.s3_machine.specs.Step.{IsPlace, IsProperReplaced, is_other_acl};
+ghost use Rattle.s3_machine.specs.Step.{is_other_acl};
+ghost use Rattle.s3_machine.specs.Proper.{IsProperDescribed};
 ghost use Rattle.s3_machine.specs.declared.operation.Label.{Label};
-ghost use Rattle.s3_machine.specs.declared.operation.Op.TheVariants.{CopyObject};
-ghost use Rattle.s3_machine.specs.declared.operation.Replaced.{Replaced};
+ghost use Rattle.s3_machine.specs.Ops as ops;
+ghost use Rattle.s3_machine.specs.declared.only_if.OnlyIf.TheVariants.{Always};
+ghost use Rattle.s3_machine.specs.declared.operation.Described.{Described};
 ghost use Rattle.swift_calls.specs.History.{present};
 ghost use Rattle.swift_calls.specs.Step.{Fit};
 ghost use Rattle.upload_records.specs.Native.{sealed_sub_manifests, sub_manifests};
@@ -21,12 +22,14 @@ ghost use Rattle.account_calls.specs.Puts.{EnsuresIfDone, Stands, StandsIn};
 ghost use Rattle.account_calls.specs.Sealed.{put_object_of};
 ghost use Rattle.account_calls.specs.declared.state.Known.TheVariants as known;
 ghost use Rattle.many_keys.specs.Copies.{IsFoundSource, IsProperHead, TellsCopied};
+ghost use Rattle.many_keys.specs.ObjectCopy.{IsOfHead, IsPutAs, is_own_copy, object_copied};
 ghost use Rattle.many_keys.specs.CopiedLists.{CopiesObject, HasCopy, HasCut, IsCopy, MayFillCut, MayPut, sealed_copy, is_cut};
-ghost use Rattle.many_keys.specs.OwnSegments.{HasOwnSegments, LeavesOutside, PutsWithSubs, StandsCopy};
+ghost use Rattle.many_keys.specs.OwnSegments.{HasOwnSegments, LeavesOutside, PutsWithSubs};
 
 use crate::copies::end_copy_object_plan;
 use crate::cut::Cut;
 use crate::manifests::get_pieces_to_copy;
+use crate::object_copy::{CopyIntoBucket, CopyTo};
 use crate::segments::copy_source_segments;
 use crate::source::content_of;
 use crate::sub_manifests::put_copied_sub_manifests;
@@ -34,10 +37,9 @@ use account_calls::{
     PlanFault, Settled, etag_of_put, interpret_put_with_etag, object_request, sealed_object_tag,
 };
 use gate_base::{Bytes, Copying, List, Memory, drop};
-use s3_machine::{Label, ObjectHead, Replaced, Reply};
-use s3_names::Acl;
+use s3_machine::{ObjectHead, Reply};
 use std::alloc::Global;
-use swift_calls::{Swift, SwiftRequest};
+use swift_calls::{FilePut, Swift, SwiftRequest};
 use swift_marks::pack;
 use upload_calls::free_id;
 use upload_records::law_unused_is_abandoned;
@@ -50,197 +52,130 @@ use upload_texts::{Sealed, SealedPart};
 /// of the source. An empty source is put under a new id without the calls on its segments. The reply is made before the last call,
 /// so that no memory is needed after it. After a fault some segments may be left that nothing names.
 pub(crate) fn copy_source_of_parts<W: Swift>(
-    alloc: Global,
     state: &mut Settled<'_, W>,
-    bucket: Bytes,
-    key: Bytes,
-    acl: Option<Acl>,
-    list: Acl,
-    from_bucket: Bytes,
-    from_key: Bytes,
-    replaced: Option<Replaced>,
+    copy: CopyIntoBucket,
     head: ObjectHead,
-    label: &Label,
 ) -> Result<Reply, PlanFault>
-    requires place { IsPlace bucket key }
-    requires source { IsPlace from_bucket from_key }
-    requires replaced { IfSome replaced IsProperReplaced }
-    requires moment { label.now.moment < moment_limit }
-    requires acl { is_other_acl acl list ≡ false }
-    requires other { is_onto_itself bucket key from_bucket from_key replaced ≡ false }
+    requires acl { is_other_acl copy.acl copy.list ≡ false }
+    requires other { is_own_copy copy ≡ false }
     requires head { IsProperHead head }
     requires of_parts { 32 < length head.etag }
     ensures stays { Stays state.old state.new }
-    ensures plans { Plans (by_account (4 + 2 * (records_of (present (W.history state.old.store.now)) bucket
-        + segments_of (present (W.history state.old.store.now)) bucket)
-        + 2 * listed_by (present (W.history state.old.store.now)) from_bucket from_key))
+    ensures plans { Plans (by_account (4 + 2 * (records_of (present (W.history state.old.store.now))
+        copy.to.bucket
+        + segments_of (present (W.history state.old.store.now)) copy.to.bucket)
+        + 2 * listed_by (present (W.history state.old.store.now)) copy.from_bucket copy.from_key))
         (W.history state.old.store.now) (W.history state.new.store.now) state.old.settings.now
-        (Given (IsFoundSource bucket list from_bucket from_key head))
-        (CopyObject bucket key acl from_bucket from_key replaced no_conditions) label.now known.Settled result }
-    ensures stands { EnsuresIfDone (W.history state.new.store.now)
-        (StandsCopy bucket key label.now.moment) result }
-    ensures told { TellsCopied head.etag label.now.moment result }
+        (Given (IsOfHead copy head))
+        (object_copied copy copy.acl no_conditions Always) copy.to.label known.Settled result }
+    ensures stands { EnsuresIfDone (W.history state.new.store.now) (IsPutAs copy.to) result }
+    ensures told { TellsCopied head.etag copy.to.label.moment result }
 {
     if head.size == 0 {
-        return copy_empty_source(alloc, state, bucket, key, replaced, head, label);
+        return copy_empty_source(state, copy.to, head);
     }
-    let cut = get_pieces_to_copy(alloc, state, &from_bucket, &from_key, &head)?;
-    copy_source_by_pieces(
-        alloc,
-        state,
-        bucket,
-        key,
-        from_bucket,
-        from_key,
-        replaced,
-        head,
-        cut,
-        label,
-    )
+    let cut = get_pieces_to_copy(state, &copy.from_bucket, &copy.from_key, &head)?;
+    copy_source_by_pieces(state, copy, head, cut)
 }
 
 /// The same of a source without a byte, whose file lists no segments.
 fn copy_empty_source<W: Swift>(
-    alloc: Global,
     state: &mut Settled<'_, W>,
-    bucket: Bytes,
-    key: Bytes,
-    replaced: Option<Replaced>,
+    to: CopyTo,
     head: ObjectHead,
-    label: &Label,
 ) -> Result<Reply, PlanFault>
-    requires place { IsPlace bucket key }
-    requires replaced { IfSome replaced IsProperReplaced }
-    requires moment { label.now.moment < moment_limit }
     requires head { IsProperHead head }
     requires of_parts { 32 < length head.etag }
     requires empty { head.size ≡ 0 }
     ensures stays { Stays state.old state.new }
-    ensures plans { (acl : Option Acl) (list : Acl) (from_bucket from_key : List ℕ) → is_other_acl acl list ≡ false
-        → is_onto_itself bucket key from_bucket from_key replaced ≡ false
-        → Plans (by_account (2 * (records_of (present (W.history state.old.store.now)) bucket
-        + segments_of (present (W.history state.old.store.now)) bucket + 1) + 1))
+    ensures plans { (acl : Option Acl) (list : Acl) (from_bucket from_key : List ℕ)
+        → is_other_acl acl list ≡ false
+        → is_onto_itself to.bucket to.key from_bucket from_key to.replaced ≡ false
+        → Plans (by_account (2 * (records_of (present (W.history state.old.store.now)) to.bucket
+        + segments_of (present (W.history state.old.store.now)) to.bucket + 1) + 1))
         (W.history state.old.store.now) (W.history state.new.store.now) state.old.settings.now
-        (Given (IsFoundSource bucket list from_bucket from_key head))
-        (CopyObject bucket key acl from_bucket from_key replaced no_conditions) label.now known.Settled result }
-    ensures stands { EnsuresIfDone (W.history state.new.store.now)
-        (StandsCopy bucket key label.now.moment) result }
-    ensures told { TellsCopied head.etag label.now.moment result }
+        (Given (IsFoundSource to.bucket list from_bucket from_key head))
+        (ops.CopyObject to.bucket to.key acl from_bucket from_key to.replaced no_conditions Always)
+        to.label known.Settled result }
+    ensures stands { EnsuresIfDone (W.history state.new.store.now) (IsPutAs to) result }
+    ensures told { TellsCopied head.etag to.label.moment result }
 {
+    let alloc = state.alloc;
+    to.bucket.fits();
+    to.key.fits();
     law_unused_is_abandoned();
-    let id = free_id(alloc, state, &bucket, label.draw)?;
+    let id = free_id(state, &to.bucket, to.label.draw)?;
     let parts = List::new(alloc);
-    let sealed = sealed_copy(bucket, key, id, replaced, head, parts, label.moment);
-    let end = put_listed_copy(alloc, state, &sealed);
+    let sealed = sealed_copy(to, id, head, parts);
+    let end = put_listed_copy(state, &sealed);
     drop(sealed);
     end
 }
 
 /// The rest of the copy, of a source whose bytes are cut so.
 fn copy_source_by_pieces<W: Swift>(
-    alloc: Global,
     state: &mut Settled<'_, W>,
-    bucket: Bytes,
-    key: Bytes,
-    from_bucket: Bytes,
-    from_key: Bytes,
-    replaced: Option<Replaced>,
+    copy: CopyIntoBucket,
     head: ObjectHead,
     cut: Cut,
-    label: &Label,
 ) -> Result<Reply, PlanFault>
-    requires place { IsPlace bucket key }
-    requires source { IsPlace from_bucket from_key }
-    requires replaced { IfSome replaced IsProperReplaced }
-    requires moment { label.now.moment < moment_limit }
     requires head { IsProperHead head }
     requires of_parts { 32 < length head.etag }
     requires cut { is_cut head.size cut.pieces ≡ true }
     ensures stays { Stays state.old state.new }
     ensures plans { (acl : Option Acl) (list : Acl) → is_other_acl acl list ≡ false
-        → is_onto_itself bucket key from_bucket from_key replaced ≡ false
-        → Plans (by_account (2 * (records_of (present (W.history state.old.store.now)) bucket
-        + segments_of (present (W.history state.old.store.now)) bucket + 1)
+        → is_own_copy copy ≡ false
+        → Plans (by_account (2 * (records_of (present (W.history state.old.store.now))
+        copy.to.bucket
+        + segments_of (present (W.history state.old.store.now)) copy.to.bucket + 1)
         + (2 * length cut.pieces + (sub_manifests (length cut.pieces) + 1))))
         (W.history state.old.store.now) (W.history state.new.store.now) state.old.settings.now
-        (GivenOf (HasCut bucket list from_bucket from_key head cut))
-        (CopyObject bucket key acl from_bucket from_key replaced no_conditions) label.now known.Settled result }
-    ensures stands { EnsuresIfDone (W.history state.new.store.now)
-        (StandsCopy bucket key label.now.moment) result }
-    ensures told { TellsCopied head.etag label.now.moment result }
+        (GivenOf (HasCut copy.to.bucket list copy.from_bucket copy.from_key head cut))
+        (object_copied copy acl no_conditions Always) copy.to.label known.Settled result }
+    ensures stands { EnsuresIfDone (W.history state.new.store.now) (IsPutAs copy.to) result }
+    ensures told { TellsCopied head.etag copy.to.label.moment result }
 {
+    copy.to.bucket.fits();
     law_unused_is_abandoned();
-    let id = free_id(alloc, state, &bucket, label.draw)?;
-    copy_under(
-        alloc,
-        state,
-        bucket,
-        key,
-        &from_bucket,
-        &from_key,
-        replaced,
-        head,
-        &cut,
-        id,
-        label,
-    )
+    let id = free_id(state, &copy.to.bucket, copy.to.label.draw)?;
+    copy_under(state, copy, head, &cut, id)
 }
 
 /// The rest of it, under an id that is free. A copy that was put lists segments which were put for it, over every observable store,
 /// consistent or not.
 fn copy_under<W: Swift>(
-    alloc: Global,
     state: &mut Settled<'_, W>,
-    bucket: Bytes,
-    key: Bytes,
-    from_bucket: &Bytes,
-    from_key: &Bytes,
-    replaced: Option<Replaced>,
+    copy: CopyIntoBucket,
     head: ObjectHead,
     cut: &Cut,
     id: u128,
-    label: &Label,
 ) -> Result<Reply, PlanFault>
-    requires place { IsPlace bucket key }
-    requires source { IsPlace from_bucket.now from_key.now }
-    requires replaced { IfSome replaced IsProperReplaced }
-    requires moment { label.now.moment < moment_limit }
     requires head { IsProperHead head }
     requires of_parts { 32 < length head.etag }
     requires cut { is_cut head.size cut.now.pieces ≡ true }
     ensures stays { Stays state.old state.new }
     ensures plans { (acl : Option Acl) (list : Acl) → is_other_acl acl list ≡ false
-        → is_onto_itself bucket key from_bucket.now from_key.now replaced ≡ false
+        → is_own_copy copy ≡ false
         → Plans (always (2 * length cut.now.pieces + (sub_manifests (length cut.now.pieces) + 1)))
         (W.history state.old.store.now) (W.history state.new.store.now) state.old.settings.now
-        (GivenOf (MayFillCut bucket list id from_bucket.now from_key.now head cut.now))
-        (CopyObject bucket key acl from_bucket.now from_key.now replaced no_conditions) label.now known.Settled
-        result }
-    ensures stands { EnsuresIfDone (W.history state.new.store.now)
-        (StandsCopy bucket key label.now.moment) result }
-    ensures told { TellsCopied head.etag label.now.moment result }
+        (GivenOf (MayFillCut copy.to.bucket list id copy.from_bucket copy.from_key head cut.now))
+        (object_copied copy acl no_conditions Always) copy.to.label known.Settled result }
+    ensures stands { EnsuresIfDone (W.history state.new.store.now) (IsPutAs copy.to) result }
+    ensures told { TellsCopied head.etag copy.to.label.moment result }
     ensures own { EnsuresIfDone (W.history state.new.store.now)
-        (HasOwnSegments bucket key id cut.now.pieces label.now.moment) result }
+        (HasOwnSegments copy.to.bucket copy.to.key id cut.now.pieces copy.to.label.moment) result }
 {
-    let parts = copy_source_segments(
-        alloc,
-        state,
-        &bucket,
-        id,
-        from_bucket,
-        cut.id,
-        cut.pieces.as_slice(),
-        label.moment,
-    )?;
-    let sealed = sealed_copy(bucket, key, id, replaced, head, parts, label.moment);
-    let end = put_copy_of_parts(alloc, state, &sealed);
+    copy.to.bucket.fits();
+    copy.to.key.fits();
+    let parts = copy_source_segments(state, &copy.to, id, &copy.from_bucket, cut)?;
+    let sealed = sealed_copy(copy.to, id, head, parts);
+    let end = put_copy_of_parts(state, &sealed);
     drop(sealed);
     end
 }
 
 /// The rest of it, whose parts were put: PUT of its sub-manifests, and of its file.
 fn put_copy_of_parts<W: Swift>(
-    alloc: Global,
     state: &mut Settled<'_, W>,
     sealed: &Sealed,
 ) -> Result<Reply, PlanFault>
@@ -248,45 +183,39 @@ fn put_copy_of_parts<W: Swift>(
     requires has { has_sealed_text sealed.now ≡ true }
     ensures stays { Stays state.old state.new }
     ensures plans { (acl : Option Acl) (list : Acl) (from_bucket from_key : List ℕ)
-        (replaced : Option Replaced) (label : Label) → is_other_acl acl list ≡ false
+        (replaced : Option Described) (label : Label) → is_other_acl acl list ≡ false
         → is_onto_itself sealed.now.bucket sealed.now.key from_bucket from_key replaced ≡ false
         → sealed.now.moment ≡ label.moment
         → Plans (always (sealed_sub_manifests sealed.now + 1)) (W.history state.old.store.now)
         (W.history state.new.store.now) state.old.settings.now
         (GivenOf (MayPut list from_bucket from_key replaced sealed.now 0))
-        (CopyObject sealed.now.bucket sealed.now.key acl from_bucket from_key replaced no_conditions) label
+        (ops.CopyObject sealed.now.bucket sealed.now.key acl from_bucket from_key replaced
+        no_conditions Always) label
         known.Settled result }
     ensures stands { EnsuresIfDone (W.history state.new.store.now)
         (λ tree. StandsIn tree (put_object_of sealed.now)) result }
     ensures told { TellsCopied sealed.now.etag sealed.now.moment result }
-    ensures own { PutsWithSubs sealed.now (W.history state.old.store.now) (W.history state.new.store.now) result }
+    ensures own { PutsWithSubs sealed.now (W.history state.old.store.now)
+        (W.history state.new.store.now) result }
 {
-    put_copied_sub_manifests(alloc, state, sealed)?;
-    put_listed_copy(alloc, state, sealed)
+    put_copied_sub_manifests(state, sealed)?;
+    put_listed_copy(state, sealed)
 }
 
 /// What is put as the copy, by the source's head. All is moved.
-fn sealed_copy(
-    bucket: Bytes,
-    key: Bytes,
-    id: u128,
-    replaced: Option<Replaced>,
-    head: ObjectHead,
-    list: List<SealedPart>,
-    moment: u64,
-) -> Sealed
-    requires replaced { IfSome replaced IsProperReplaced }
+fn sealed_copy(to: CopyTo, id: u128, head: ObjectHead, list: List<SealedPart>) -> Sealed
     requires head { IsProperHead head }
-    ensures copy { result ≡ sealed_copy bucket key id replaced head list moment }
-    ensures content { IsProperReplaced
+    ensures copy { result ≡ sealed_copy to.bucket to.key id to.replaced head list to.label.moment }
+    ensures content { IsProperDescribed
         (record { content_type = result.content_type; meta = result.meta }) }
     ensures ordered { names_ascend result.meta ≡ true }
     ensures fits { result.id < 2 ^ 128 }
 {
-    let content = content_of(replaced, head.content_type, head.meta);
+    let moment = to.label.moment;
+    let content = content_of(to.replaced, head.content_type, head.meta);
     Sealed {
-        bucket,
-        key,
+        bucket: to.bucket.into_text(),
+        key: to.key.into_text(),
         id,
         content_type: content.content_type,
         meta: content.meta,
@@ -299,28 +228,29 @@ fn sealed_copy(
 
 /// The last call of the copy, and the reply, which is made before it.
 fn put_listed_copy<W: Swift>(
-    alloc: Global,
     state: &mut Settled<'_, W>,
     sealed: &Sealed,
 ) -> Result<Reply, PlanFault>
     requires copy { IsCopy sealed.now }
     ensures stays { Stays state.old state.new }
     ensures plans { (acl : Option Acl) (list : Acl) (from_bucket from_key : List ℕ)
-        (replaced : Option Replaced) (label : Label) → is_other_acl acl list ≡ false
+        (replaced : Option Described) (label : Label) → is_other_acl acl list ≡ false
         → is_onto_itself sealed.now.bucket sealed.now.key from_bucket from_key replaced ≡ false
         → sealed.now.moment ≡ label.moment
         → Plans (always 1) (W.history state.old.store.now) (W.history state.new.store.now)
         state.old.settings.now
         (GivenOf (MayPut list from_bucket from_key replaced sealed.now (sealed_sub_manifests sealed.now)))
-        (CopyObject sealed.now.bucket sealed.now.key acl from_bucket from_key replaced no_conditions) label
+        (ops.CopyObject sealed.now.bucket sealed.now.key acl from_bucket from_key replaced
+        no_conditions Always) label
         known.Settled result }
     ensures stands { EnsuresIfDone (W.history state.new.store.now)
         (λ tree. StandsIn tree (put_object_of sealed.now)) result }
     ensures told { TellsCopied sealed.now.etag sealed.now.moment result }
-    ensures leaves { LeavesOutside sealed.now.bucket (W.history state.old.store.now) (W.history state.new.store.now) }
+    ensures leaves { LeavesOutside sealed.now.bucket (W.history state.old.store.now)
+        (W.history state.new.store.now) }
 {
     let etag = sealed.etag.copy()?;
-    end_copy_object_plan(put_copy_file(alloc, state, sealed), etag, sealed.moment)
+    end_copy_object_plan(put_copy_file(state, sealed), etag, sealed.moment)
 }
 
 /// Puts the copy, whose parts and sub-manifests stand beside the bucket, by PUT of its file (Object Storage API v1, "Static large objects"): the one
@@ -328,21 +258,19 @@ fn put_listed_copy<W: Swift>(
 /// observable store, consistent or not, its file stands. After Failed, which
 /// comes only where the store's count of faults rose, and after Memory the state is the old one or that. Inconsistent never comes
 /// over an observable consistent account of which this is so.
-fn put_copy_file<W: Swift>(
-    alloc: Global,
-    state: &mut Settled<'_, W>,
-    sealed: &Sealed,
-) -> Result<(), PlanFault>
+fn put_copy_file<W: Swift>(state: &mut Settled<'_, W>, sealed: &Sealed) -> Result<(), PlanFault>
     requires copy { IsCopy sealed.now }
     ensures stays { Stays state.old state.new }
-    ensures changes { (from_bucket from_key : List ℕ) (replaced : Option Replaced)
+    ensures changes { (from_bucket from_key : List ℕ) (replaced : Option Described)
         → Changes (always 1) (W.history state.old.store.now) (W.history state.new.store.now)
         (GivenOf (HasCopy from_bucket from_key replaced sealed.now (sealed_sub_manifests sealed.now)))
         (CopiesObject sealed.now.bucket sealed.now.key from_bucket from_key replaced
         sealed.now.moment) result }
     ensures stands { Stands (W.history state.new.store.now) (put_object_of sealed.now) result }
-    ensures leaves { LeavesOutside sealed.now.bucket (W.history state.old.store.now) (W.history state.new.store.now) }
+    ensures leaves { LeavesOutside sealed.now.bucket (W.history state.old.store.now)
+        (W.history state.new.store.now) }
 {
+    let alloc = state.alloc;
     let request = copy_file_request(alloc, sealed)?;
     let etag = etag_of_put(&request);
     let reply = state.call(request)?;
@@ -372,11 +300,12 @@ fn empty_copy_file_request(alloc: Global, sealed: &Sealed) -> Result<SwiftReques
     let meta = pack(alloc, &sealed.meta)?;
     let container = sealed.bucket.copy()?;
     let name = sealed.key.copy()?;
-    Ok(SwiftRequest::PutObject {
+    Ok(SwiftRequest::PutObject(FilePut {
         container,
         name,
         content_type,
         meta,
         body: Bytes::new(alloc),
-    })
+        fresh: false,
+    }))
 }

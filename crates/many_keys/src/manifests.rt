@@ -1,7 +1,5 @@
 //! The lists of the segments of an object that was completed from parts, read one after another.
 ghost use Rattle.std.specs.Prelude.{◌≡◌, ◌<◌, ◌≤◌, ◌+◌, ℕ, List, true, length, IfOk};
-ghost use Rattle.s3_names.specs.Bucket.{is_bucket};
-ghost use Rattle.s3_machine.specs.Step.{IsPlace};
 ghost use Rattle.swift_calls.specs.History.{present};
 ghost use Rattle.swift_calls.specs.Step.{Fit};
 ghost use Rattle.swift_calls.specs.declared.calls.SwiftRequest.TheVariants.{GetManifest};
@@ -18,6 +16,7 @@ use crate::cut::{
 use account_calls::{PlanFault, Settled, interpret_listed_segments};
 use gate_base::{Bytes, Copying, List, Memory};
 use s3_machine::ObjectHead;
+use s3_names::{BucketName, Key};
 use slo_manifest::Segment;
 use std::alloc::Global;
 use swift_calls::{Swift, SwiftRequest};
@@ -32,13 +31,11 @@ const MOST_SUB_MANIFESTS: usize = 10;
 /// of faults rose; Memory where memory ran out; Inconsistent where the lists aren't those of parts that make so many bytes, and never
 /// over an observable consistent account whose object has these.
 pub(crate) fn get_pieces_to_copy<W: Swift>(
-    alloc: Global,
     state: &mut Settled<'_, W>,
-    bucket: &Bytes,
-    key: &Bytes,
+    bucket: &BucketName,
+    key: &Key,
     head: &ObjectHead,
 ) -> Result<Cut, PlanFault>
-    requires place { IsPlace bucket.now key.now }
     requires of_parts { 32 < length head.now.etag }
     requires filled { 0 < head.now.size }
     ensures stays { Stays state.old state.new }
@@ -48,63 +45,58 @@ pub(crate) fn get_pieces_to_copy<W: Swift>(
         (Given (HasObject bucket.now key.now head.now.etag head.now.size))
         (TellsOf (TellsCut bucket.now key.now)) result }
 {
-    let listed = get_listed_segments(state, bucket, key, head)?;
-    get_pieces_of_list(alloc, state, bucket, listed.as_slice(), head.size)
+    let listed = get_listed_segments(state, bucket, key)?;
+    get_pieces_of_list(state, bucket, listed.as_slice(), head.size)
 }
 
 /// The segments that the file of an object lists, by GET of its list.
 fn get_listed_segments<W: Swift>(
     state: &mut Settled<'_, W>,
-    bucket: &Bytes,
-    key: &Bytes,
-    head: &ObjectHead,
+    bucket: &BucketName,
+    key: &Key,
 ) -> Result<List<Segment>, PlanFault>
-    requires place { IsPlace bucket.now key.now }
-    requires of_parts { 32 < length head.now.etag }
-    requires filled { 0 < head.now.size }
     ensures stays { Stays state.old state.new }
-    ensures asks { Asks (always 1) (W.history state.old.store.now) (W.history state.new.store.now)
-        (Given (HasObject bucket.now key.now head.now.etag head.now.size))
+    ensures asks { (etag : List ℕ) (size : ℕ) → 32 < length etag → 0 < size
+        → Asks (always 1) (W.history state.old.store.now) (W.history state.new.store.now)
+        (Given (HasObject bucket.now key.now etag size))
         (TellsOf (ListsSegments bucket.now key.now)) result }
 {
     law_listing_found();
-    let container = bucket.copy()?;
-    let name = key.copy()?;
+    let container = bucket.copy_text()?;
+    let name = key.copy_text()?;
     let reply = state.call(SwiftRequest::GetManifest { container, name })?;
     interpret_listed_segments(reply)
 }
 
 /// The pieces of an object of so many bytes whose file lists these segments.
 fn get_pieces_of_list<W: Swift>(
-    alloc: Global,
     state: &mut Settled<'_, W>,
-    bucket: &Bytes,
+    bucket: &BucketName,
     listed: &[Segment],
     size: u64,
 ) -> Result<Cut, PlanFault>
-    requires named { is_bucket bucket.now ≡ true }
     ensures stays { Stays state.old state.new }
     ensures proper { IfOk result (λ cut. is_cut size cut.pieces ≡ true) }
     ensures asks { (key etag : List ℕ) → 32 < length etag
         → Asks (always (subs_in listed.now)) (W.history state.old.store.now) (W.history state.new.store.now)
         (GivenOf (HasListed bucket.now key etag size listed.now)) (TellsOf (TellsCut bucket.now key)) result }
 {
+    let alloc = state.alloc;
+    bucket.fits();
     law_object_listed();
     if lists_sub_manifests(listed) {
-        return get_pieces_of_sub_manifests(alloc, state, bucket, listed, size);
+        return get_pieces_of_sub_manifests(state, bucket, listed, size);
     }
     cut_of_list(alloc, listed, size)
 }
 
 /// The pieces of an object whose file lists these sub-manifests, by GET of the list of each.
 fn get_pieces_of_sub_manifests<W: Swift>(
-    alloc: Global,
     state: &mut Settled<'_, W>,
-    bucket: &Bytes,
+    bucket: &BucketName,
     listed: &[Segment],
     size: u64,
 ) -> Result<Cut, PlanFault>
-    requires named { is_bucket bucket.now ≡ true }
     requires subs { lists_subs listed.now ≡ true }
     ensures stays { Stays state.old state.new }
     ensures proper { IfOk result (λ cut. is_cut size cut.pieces ≡ true) }
@@ -112,33 +104,33 @@ fn get_pieces_of_sub_manifests<W: Swift>(
         → Asks (always (length listed.now)) (W.history state.old.store.now) (W.history state.new.store.now)
         (GivenOf (HasListed bucket.now key etag size listed.now)) (TellsOf (TellsCut bucket.now key)) result }
 {
+    bucket.fits();
     law_object_listed();
     let count = listed.len();
     if count > MOST_SUB_MANIFESTS {
         return Err(PlanFault::Inconsistent);
     }
     let id = id_of_list(listed);
-    let pieces = get_sub_manifests(alloc, state, bucket, id, count)?;
+    let pieces = get_sub_manifests(state, bucket, id, count)?;
     proper_cut(id, pieces, size)
 }
 
 /// The pieces of what the first sub-manifests of an id list, by GET of the list of each.
 fn get_sub_manifests<W: Swift>(
-    alloc: Global,
     state: &mut Settled<'_, W>,
-    bucket: &Bytes,
+    bucket: &BucketName,
     id: u128,
     count: usize,
 ) -> Result<List<Piece>, PlanFault>
-    requires named { is_bucket bucket.now ≡ true }
     requires few { count ≤ 10 }
     ensures stays { Stays state.old state.new }
     ensures asks { Asks (always count) (W.history state.old.store.now) (W.history state.new.store.now)
         (GivenOf (HasSubs bucket.now id count)) (TellsOf (TellsRuns bucket.now id count)) result }
 {
+    let alloc = state.alloc;
     let mut pieces = List::new(alloc);
     for n in 0..count {
-        let listed = get_sub_manifest(alloc, state, bucket, id, n)?;
+        let listed = get_sub_manifest(state, bucket, id, n)?;
         add_pieces(&mut pieces, listed.as_slice())?;
     }
     Ok(pieces)
@@ -146,18 +138,17 @@ fn get_sub_manifests<W: Swift>(
 
 /// The segments that the sub-manifest of that number, counted from 0, lists, by GET of its list.
 fn get_sub_manifest<W: Swift>(
-    alloc: Global,
     state: &mut Settled<'_, W>,
-    bucket: &Bytes,
+    bucket: &BucketName,
     id: u128,
     n: usize,
 ) -> Result<List<Segment>, PlanFault>
-    requires named { is_bucket bucket.now ≡ true }
     requires few { n < 10 }
     ensures stays { Stays state.old state.new }
     ensures asks { Asks (always 1) (W.history state.old.store.now) (W.history state.new.store.now)
         (GivenOf (HasSubs bucket.now id (n + 1))) (TellsOf (TellsSub bucket.now id n)) result }
 {
+    let alloc = state.alloc;
     let request = sub_manifest_list_request(alloc, bucket, id, n)?;
     let reply = state.call(request)?;
     interpret_listed_segments(reply)
@@ -166,17 +157,16 @@ fn get_sub_manifest<W: Swift>(
 /// The GET of the list of that sub-manifest.
 fn sub_manifest_list_request(
     alloc: Global,
-    bucket: &Bytes,
+    bucket: &BucketName,
     id: u128,
     n: usize,
 ) -> Result<SwiftRequest, Memory>
-    requires named { is_bucket bucket.now ≡ true }
     requires few { n < 10 }
     ensures request { IfOk result (λ request. request
         ≡ GetManifest (segments_name bucket.now) (sub_manifest_name (id_digits id) (n + 1))) }
     ensures fits { IfOk result Fit }
 {
-    let container = segments_container(alloc, bucket.as_slice())?;
+    let container = segments_container(alloc, bucket.bytes())?;
     let name = sub_manifest_name(alloc, id, n as u32 + 1)?;
     Ok(SwiftRequest::GetManifest { container, name })
 }

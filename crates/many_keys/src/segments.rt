@@ -1,7 +1,5 @@
 //! The copy of the segments of an object, one after another.
 ghost use Rattle.std.specs.Prelude.{◌≡◌, ◌≢◌, ◌≤◌, ◌<◌, ◌*◌, true, IsTrue, length, IfOk, Err};
-ghost use Rattle.gate_base.specs.Told.{moment_limit};
-ghost use Rattle.s3_names.specs.Bucket.{is_bucket};
 ghost use Rattle.s3_machine.specs.ETag.{body_etag};
 ghost use Rattle.s3_machine.specs.Limits.{most_body_bytes};
 ghost use Rattle.s3_machine.specs.Uploads.{IsPartNumber};
@@ -18,13 +16,14 @@ ghost use Rattle.many_keys.specs.OwnSegments.{PutsOwn, StandSegments};
 ghost use Rattle.account_calls.specs.Told.{LeavesAccount};
 ghost use Rattle.swift_calls.specs.History.{present};
 
-use crate::cut::Piece;
+use crate::cut::{Cut, Piece};
+use crate::object_copy::CopyTo;
 use account_calls::{PlanFault, Settled, interpret_put_with_etag};
-use gate_base::{Bytes, List, drop};
-use s3_machine::body_etag;
-use std::alloc::Global;
+use gate_base::{Bytes, Copying, List, drop};
+use s3_machine::{PartNumber, body_etag};
+use s3_names::BucketName;
 use swift_calls::{Swift, SwiftReply, SwiftRequest};
-use upload_calls::part_request;
+use upload_calls::{PartPlace, part_request};
 use upload_records::{law_orphan_put, segment_name, segments_container};
 use upload_texts::SealedPart;
 
@@ -34,39 +33,52 @@ use upload_texts::SealedPart;
 /// Inconsistent also where a file has another size, and never over an observable consistent account on which the files are there. After Ok
 /// the file of each of these parts stands as it was put, over every observable store, consistent or not.
 pub(crate) fn copy_source_segments<W: Swift>(
-    alloc: Global,
     state: &mut Settled<'_, W>,
-    bucket: &Bytes,
+    to: &CopyTo,
     id: u128,
-    from_bucket: &Bytes,
-    from_id: u128,
-    cut: &[Piece],
-    moment: u64,
+    from_bucket: &BucketName,
+    cut: &Cut,
 ) -> Result<List<SealedPart>, PlanFault>
-    requires named { is_bucket bucket.now ≡ true }
-    requires source { is_bucket from_bucket.now ≡ true }
-    requires cut { is_cut (size_of_cut cut.now) cut.now ≡ true }
-    requires moment { moment < moment_limit }
+    requires cut { is_cut (size_of_cut cut.now.pieces) cut.now.pieces ≡ true }
     ensures stays { Stays state.old state.new }
-    ensures listed { IfOk result (AreOfCut cut.now) }
-    ensures asks { Asks (always (2 * length cut.now)) (W.history state.old.store.now) (W.history state.new.store.now)
-        (GivenOf (MayCopy bucket.now id from_bucket.now from_id cut.now))
-        (CopiesFirst bucket.now id from_bucket.now from_id cut.now moment) result }
+    ensures listed { IfOk result (AreOfCut cut.now.pieces) }
+    ensures asks { Asks (always (2 * length cut.now.pieces)) (W.history state.old.store.now)
+        (W.history state.new.store.now)
+        (GivenOf (MayCopy to.now.bucket id from_bucket.now cut.now.id cut.now.pieces))
+        (CopiesFirst to.now.bucket id from_bucket.now cut.now.id cut.now.pieces to.now.label.moment)
+        result }
     ensures own { IsTrue (W.history state.new.store.now).observable
-        → IfOk result (λ list. StandSegments bucket.now id moment list (present (W.history state.new.store.now))) }
+        → IfOk result (λ list. StandSegments to.now.bucket id to.now.label.moment list
+        (present (W.history state.new.store.now))) }
 {
+    copy_pieces(state, to, id, from_bucket, cut.id, cut.pieces.as_slice())
+}
+
+/// The same of these pieces, which stand under an id.
+fn copy_pieces<W: Swift>(
+    state: &mut Settled<'_, W>,
+    to: &CopyTo,
+    id: u128,
+    from_bucket: &BucketName,
+    from_id: u128,
+    pieces: &[Piece],
+) -> Result<List<SealedPart>, PlanFault>
+    requires cut { is_cut (size_of_cut pieces.now) pieces.now ≡ true }
+    ensures stays { Stays state.old state.new }
+    ensures listed { IfOk result (AreOfCut pieces.now) }
+    ensures asks { Asks (always (2 * length pieces.now)) (W.history state.old.store.now)
+        (W.history state.new.store.now)
+        (GivenOf (MayCopy to.now.bucket id from_bucket.now from_id pieces.now))
+        (CopiesFirst to.now.bucket id from_bucket.now from_id pieces.now to.now.label.moment)
+        result }
+    ensures own { IsTrue (W.history state.new.store.now).observable
+        → IfOk result (λ list. StandSegments to.now.bucket id to.now.label.moment list
+        (present (W.history state.new.store.now))) }
+{
+    let alloc = state.alloc;
     let mut list = List::new(alloc);
-    for piece in cut {
-        let part = copy_piece(
-            alloc,
-            state,
-            bucket,
-            id,
-            from_bucket,
-            from_id,
-            *piece,
-            moment,
-        )?;
+    for piece in pieces {
+        let part = copy_piece(state, to, id, from_bucket, from_id, *piece)?;
         list.push(part)?;
     }
     Ok(list)
@@ -74,42 +86,42 @@ pub(crate) fn copy_source_segments<W: Swift>(
 
 /// Copies one segment of a source.
 fn copy_piece<W: Swift>(
-    alloc: Global,
     state: &mut Settled<'_, W>,
-    bucket: &Bytes,
+    to: &CopyTo,
     id: u128,
-    from_bucket: &Bytes,
+    from_bucket: &BucketName,
     from_id: u128,
     piece: Piece,
-    moment: u64,
 ) -> Result<SealedPart, PlanFault>
-    requires named { is_bucket bucket.now ≡ true }
-    requires source { is_bucket from_bucket.now ≡ true }
     requires number { IsPartNumber piece.number }
     requires small { piece.size ≤ most_body_bytes }
-    requires moment { moment < moment_limit }
     ensures stays { Stays state.old state.new }
     ensures part { IfOk result (λ part. piece_in part ≡ piece) }
     ensures proper { IfOk result (λ part. part_fits_sealed_text part ≡ true) }
     ensures asks { Asks (always 2) (W.history state.old.store.now) (W.history state.new.store.now)
-        (GivenOf (MayCopyPiece bucket.now id from_bucket.now from_id piece))
-        (CopiesPiece bucket.now id from_bucket.now from_id piece moment) result }
-    ensures own { PutsOwn bucket.now id piece.number moment (W.history state.old.store.now)
+        (GivenOf (MayCopyPiece to.now.bucket id from_bucket.now from_id piece))
+        (CopiesPiece to.now.bucket id from_bucket.now from_id piece to.now.label.moment) result }
+    ensures own { PutsOwn to.now.bucket id piece.number to.now.label.moment
+        (W.history state.old.store.now)
         (W.history state.new.store.now) result }
 {
-    let bytes = get_piece_to_copy(alloc, state, from_bucket, from_id, piece)?;
-    put_copied_segment(alloc, state, bucket, id, piece.number, bytes, moment)
+    let place = PartPlace {
+        bucket: to.bucket.copy()?,
+        id,
+        number: PartNumber::of(piece.number),
+        label: to.label,
+    };
+    let bytes = get_piece_to_copy(state, from_bucket, from_id, piece)?;
+    put_copied_segment(state, &place, bytes)
 }
 
 /// The bytes of a segment, by GET of its file.
 fn get_piece_to_copy<W: Swift>(
-    alloc: Global,
     state: &mut Settled<'_, W>,
-    bucket: &Bytes,
+    bucket: &BucketName,
     id: u128,
     piece: Piece,
 ) -> Result<Bytes, PlanFault>
-    requires named { is_bucket bucket.now ≡ true }
     requires number { IsPartNumber piece.number }
     ensures stays { Stays state.old state.new }
     ensures sized { IfOk result (λ bytes. length bytes ≡ piece.size) }
@@ -117,7 +129,8 @@ fn get_piece_to_copy<W: Swift>(
         (GivenOf (HasPiece bucket.now id piece)) (TellsOf (TellsPiece bucket.now id piece)) result }
     ensures leaves { LeavesAccount (W.history state.old.store.now) (W.history state.new.store.now) }
 {
-    let container = segments_container(alloc, bucket.as_slice())?;
+    let alloc = state.alloc;
+    let container = segments_container(alloc, bucket.bytes())?;
     let name = segment_name(alloc, id, piece.number)?;
     let reply = state.call(SwiftRequest::GetObject {
         container,
@@ -146,72 +159,71 @@ fn piece_in_reply(reply: SwiftReply, size: u64) -> Result<Bytes, PlanFault>
 }
 
 /// Puts a segment under an id that nothing names, by PUT of the file of the part of this number (Object Storage API v1, "Create or
-/// replace object"). At most one call, and the S3 state stays. The moment is in seconds since the beginning of 1970, before the
-/// year 10000. Inconsistent never comes over an observable consistent account on which the bucket is there and nothing names the
+/// replace object"). At most one call, and the S3 state stays. It is put at the moment of the label. Inconsistent never comes over an observable consistent account on which the bucket is there and nothing names the
 /// id.
 fn put_copied_segment<W: Swift>(
-    alloc: Global,
     state: &mut Settled<'_, W>,
-    bucket: &Bytes,
-    id: u128,
-    number: u32,
+    place: &PartPlace,
     body: Bytes,
-    moment: u64,
 ) -> Result<SealedPart, PlanFault>
-    requires named { is_bucket bucket.now ≡ true }
-    requires number { IsPartNumber number }
-    requires sized { length body ≤ most_body_bytes }
-    requires moment { moment < moment_limit }
+    requires { length body ≤ most_body_bytes }
     ensures stays { Stays state.old state.new }
-    ensures number { IfOk result (λ part. part.number ≡ number) }
+    ensures number { IfOk result (λ part. part.number ≡ place.now.number) }
     ensures size { IfOk result (λ part. part.size ≡ length body) }
     ensures proper { IfOk result (λ part. part_fits_sealed_text part ≡ true) }
     ensures asks { Asks (always 1) (W.history state.old.store.now) (W.history state.new.store.now)
-        (GivenOf (IsUnnamed bucket.now id)) (PutsSegment bucket.now id number body moment) result }
+        (GivenOf (IsUnnamed place.now.bucket place.now.id))
+        (PutsSegment place.now.bucket place.now.id place.now.number body place.now.label.moment)
+        result }
     ensures stands { Stands (W.history state.new.store.now)
-        (put_part_of bucket.now id number body moment) result }
-    ensures own { PutsOwn bucket.now id number moment (W.history state.old.store.now) (W.history state.new.store.now)
+        (put_part_of place.now.bucket place.now.id place.now.number body place.now.label.moment)
+        result }
+    ensures own { PutsOwn place.now.bucket place.now.id place.now.number place.now.label.moment
+        (W.history state.old.store.now) (W.history state.new.store.now)
         result }
 {
+    let alloc = state.alloc;
     let etag = body_etag(body.as_slice());
     let part = SealedPart {
-        number,
+        number: place.number.get(),
         etag: Bytes::from_slice(alloc, &etag)?,
         size: body.len() as u64,
     };
-    put_copied_segment_file(alloc, state, bucket, id, part, body, &etag, moment)
+    put_copied_segment_file(state, place, part, body, &etag)
 }
 
 /// Puts the segment that is this part, of bytes with this ETag.
 fn put_copied_segment_file<W: Swift>(
-    alloc: Global,
     state: &mut Settled<'_, W>,
-    bucket: &Bytes,
-    id: u128,
+    place: &PartPlace,
     part: SealedPart,
     body: Bytes,
     etag: &[u8],
-    moment: u64,
 ) -> Result<SealedPart, PlanFault>
-    requires named { is_bucket bucket.now ≡ true }
-    requires number { IsPartNumber part.number }
+    requires number { part.number ≡ place.now.number }
     requires size { part.size ≡ length body }
     requires same { part.etag ≡ body_etag body }
     requires etag { etag.now ≡ body_etag body }
     requires sized { length body ≤ most_body_bytes }
-    requires moment { moment < moment_limit }
     ensures stays { Stays state.old state.new }
     ensures told { IfOk result (λ told. told ≡ part) }
     ensures asks { Asks (always 1) (W.history state.old.store.now) (W.history state.new.store.now)
-        (GivenOf (IsUnnamed bucket.now id)) (PutsSegment bucket.now id part.number body moment)
+        (GivenOf (IsUnnamed place.now.bucket place.now.id))
+        (PutsSegment place.now.bucket place.now.id place.now.number body place.now.label.moment)
         result }
     ensures stands { Stands (W.history state.new.store.now)
-        (put_part_of bucket.now id part.number body moment) result }
-    ensures own { PutsOwn bucket.now id part.number moment (W.history state.old.store.now)
+        (put_part_of place.now.bucket place.now.id place.now.number body place.now.label.moment)
+        result }
+    ensures own { PutsOwn place.now.bucket place.now.id place.now.number place.now.label.moment
+        (W.history state.old.store.now)
         (W.history state.new.store.now) result }
 {
+    let alloc = state.alloc;
+    place.bucket.fits();
+    place.number.get();
+    place.upload_id();
     law_orphan_put();
-    let request = part_request(alloc, bucket, id, part.number, body, etag, moment)?;
+    let request = part_request(alloc, place, body, etag)?;
     let reply = state.call(request)?;
     copied_segment_in_reply(reply, etag, part)
 }

@@ -1,6 +1,6 @@
 //! The source of a copy, and what the copy is put with.
 ghost use Rattle.std.specs.Prelude.{◌≡◌, ◌≤◌, true, length, None, Some, IfOk, IfSome};
-ghost use Rattle.s3_machine.specs.Step.{IsPlace, IsProperReplaced};
+ghost use Rattle.s3_machine.specs.Proper.{IsProperDescribed};
 ghost use Rattle.upload_records.specs.Native.{IsSettled};
 ghost use Rattle.account_calls.specs.Calls.{always, Asks, Given, Tells, TellsBytes, TellsObject};
 ghost use Rattle.account_calls.specs.Interpret.{IsShownHead};
@@ -11,9 +11,10 @@ ghost use Rattle.many_keys.specs.Copies.{IsProperHead, OfStored, body_due, conte
 
 use account_calls::{PlanFault, Settled, get_object, head_object};
 use gate_base::Bytes;
-use s3_machine::{Body, MOST_BODY_BYTES, ObjectHead, Replaced, is_content_type, is_proper_meta};
-use s3_names::Meta;
-use std::alloc::Global;
+use s3_machine::{
+    Body, Described, MOST_BODY_BYTES, ObjectHead, Proper, is_content_type, is_proper_meta,
+};
+use s3_names::{BucketName, Key, Meta};
 use swift_calls::Swift;
 use swift_marks::is_etag;
 use upload_records::law_object_proper;
@@ -21,20 +22,19 @@ use upload_records::law_object_proper;
 /// The head of an object that is to be copied ([`account_calls::head_object`]), by one call. A head with which no object can be put is
 /// Inconsistent; the other faults are those of the call.
 pub(crate) fn head_source<W: Swift>(
-    alloc: Global,
     state: &mut Settled<'_, W>,
-    bucket: &Bytes,
-    key: &Bytes,
+    bucket: &BucketName,
+    key: &Key,
 ) -> Result<Option<ObjectHead>, PlanFault>
-    requires place { IsPlace bucket.now key.now }
     ensures stays { Stays state.old state.new }
     ensures asks { Asks (always 1) (W.history state.old.store.now) (W.history state.new.store.now)
         IsSettled (Tells (TellsObject bucket.now key.now)) result }
     ensures proper { IfOk result (λ told. IfSome told IsProperHead) }
     ensures leaves { LeavesAccount (W.history state.old.store.now) (W.history state.new.store.now) }
 {
+    bucket.fits();
     law_object_proper();
-    let told = head_object(alloc, state, bucket, key)?;
+    let told = head_object(state, bucket, key)?;
     proper_head_to_copy(told)
 }
 
@@ -68,13 +68,11 @@ fn is_head_to_copy(head: &ObjectHead) -> bool
 /// bytes of another size or with another ETag than the head has are Inconsistent, and so is an object that is gone. The other
 /// faults are those of the call.
 pub(crate) fn get_source_to_copy<W: Swift>(
-    alloc: Global,
     state: &mut Settled<'_, W>,
-    bucket: Bytes,
-    key: Bytes,
+    bucket: BucketName,
+    key: Key,
     head: &ObjectHead,
 ) -> Result<Bytes, PlanFault>
-    requires place { IsPlace bucket key }
     requires plain { length head.now.etag ≤ 32 }
     ensures stays { Stays state.old state.new }
     ensures asks { Asks (always 1) (W.history state.old.store.now) (W.history state.new.store.now)
@@ -84,16 +82,9 @@ pub(crate) fn get_source_to_copy<W: Swift>(
     ensures unchanged { OfStored (W.history state.old.store.now) bucket key head.now.etag head.now.size
         result }
 {
+    bucket.fits();
     law_object_proper();
-    let told = get_object(
-        alloc,
-        state,
-        bucket,
-        key,
-        head.etag.as_slice(),
-        head.size,
-        None,
-    )?;
+    let told = get_object(state, bucket, key, head.etag.as_slice(), head.size, None)?;
     body_to_copy(head, told)
 }
 
@@ -121,15 +112,18 @@ fn is_body_to_copy(head: &ObjectHead, body: &Body) -> bool
 
 /// What a copy is put with: what is given in place of the source's content type and metadata, or these. They are moved, and nothing
 /// is copied.
-pub(crate) fn content_of(replaced: Option<Replaced>, content_type: Bytes, meta: Meta) -> Replaced
-    requires replaced { IfSome replaced IsProperReplaced }
+pub(crate) fn content_of(
+    replaced: Option<Proper<Described>>,
+    content_type: Bytes,
+    meta: Meta,
+) -> Described
     requires typed { is_content_type content_type ≡ true }
     requires described { is_proper_meta meta ≡ true }
     ensures content { result ≡ content_of replaced content_type meta }
-    ensures proper { IsProperReplaced result }
+    ensures proper { IsProperDescribed result }
 {
     match replaced {
-        Some(replaced) => replaced,
-        None => Replaced { content_type, meta },
+        Some(replaced) => replaced.into_value(),
+        None => Described { content_type, meta },
     }
 }

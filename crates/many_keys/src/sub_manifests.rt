@@ -17,7 +17,6 @@ use account_calls::{
     sub_manifest_request,
 };
 use slo_manifest::Segment;
-use std::alloc::Global;
 use swift_calls::Swift;
 use upload_records::law_orphan_listed;
 use upload_texts::Sealed;
@@ -26,7 +25,6 @@ use upload_texts::Sealed;
 /// each, and the S3 state stays. The faults are those of the calls; Inconsistent never comes over an observable consistent account
 /// on which nothing names the id.
 pub(crate) fn put_copied_sub_manifests<W: Swift>(
-    alloc: Global,
     state: &mut Settled<'_, W>,
     sealed: &Sealed,
 ) -> Result<(), PlanFault>
@@ -39,13 +37,13 @@ pub(crate) fn put_copied_sub_manifests<W: Swift>(
     ensures own { PutsSubs sealed.now (sealed_sub_manifests sealed.now) (W.history state.old.store.now)
         (W.history state.new.store.now) result }
 {
+    let alloc = state.alloc;
     let segments = sealed_segments(alloc, sealed)?;
-    put_copied_sub_manifests_of(alloc, state, sealed, segments.as_slice())
+    put_copied_sub_manifests_of(state, sealed, segments.as_slice())
 }
 
 /// The same, by the segments that its parts are.
 fn put_copied_sub_manifests_of<W: Swift>(
-    alloc: Global,
     state: &mut Settled<'_, W>,
     sealed: &Sealed,
     segments: &[Segment],
@@ -62,7 +60,7 @@ fn put_copied_sub_manifests_of<W: Swift>(
 {
     let count = sub_manifest_count(segments.len());
     for n in 0..count {
-        put_copied_sub_manifest(alloc, state, sealed, segments, n)?;
+        put_copied_sub_manifest(state, sealed, segments, n)?;
     }
     Ok(())
 }
@@ -70,7 +68,6 @@ fn put_copied_sub_manifests_of<W: Swift>(
 /// Puts the sub-manifest of that number, counted from 0, where those before it are there (Object Storage API v1, "Static large
 /// objects").
 fn put_copied_sub_manifest<W: Swift>(
-    alloc: Global,
     state: &mut Settled<'_, W>,
     sealed: &Sealed,
     segments: &[Segment],
@@ -88,6 +85,7 @@ fn put_copied_sub_manifest<W: Swift>(
         → KeepsAllBut (segments_name sealed.now.bucket) (sub_manifest_name (id_digits sealed.now.id) (n + 1))
         (present (W.history state.old.store.now)) (present (W.history state.new.store.now)) }
 {
+    let alloc = state.alloc;
     law_orphan_listed();
     let request = sub_manifest_request(alloc, sealed, segments, n)?;
     let etag = etag_of_put(&request);

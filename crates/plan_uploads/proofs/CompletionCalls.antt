@@ -7,7 +7,8 @@ use Rattle.s3_machine.specs.declared.code.Code.{Code}
 use Rattle.s3_machine.specs.declared.operation.Label.{Label}
 use Rattle.s3_machine.specs.declared.operation.Listed.{Listed}
 use Rattle.s3_machine.specs.declared.operation.Op.{Op}
-use Rattle.s3_machine.specs.declared.operation.Op.TheVariants.{CompleteUpload}
+use Rattle.s3_machine.specs.declared.only_if.OnlyIf.TheVariants.{Always}
+use Rattle.s3_machine.specs.Ops.{CompleteUpload}
 use Rattle.s3_machine.specs.declared.operation.Reply.{Reply}
 use Rattle.s3_machine.specs.declared.operation.Reply.TheVariants.{Refused}
 use Rattle.s3_machine.specs.declared.operation.Settings.{Settings}
@@ -68,7 +69,7 @@ module _ {settings : Settings} {given : SwiftAccount → Type 0} {op : Op} {labe
 
 -- a plan that seals a completion is one by whatever is that completion
 pub seals_same : {settings : Settings} {h c : History} {most : Bound} {after : Known} {end : Result Reply PlanFault} (text : List ℕ) (list : List Listed) (label : Label) (s t : Sealed) → s ≡ t
-    → Plans most h c settings (GivenOf (MayComplete settings text list label s)) (CompleteUpload s.bucket s.key text list) label after end
-    → Plans most h c settings (GivenOf (MayComplete settings text list label t)) (CompleteUpload t.bucket t.key text list) label after end
+    → Plans most h c settings (GivenOf (MayComplete settings text list label s)) (CompleteUpload s.bucket s.key text list Always) label after end
+    → Plans most h c settings (GivenOf (MayComplete settings text list label t)) (CompleteUpload t.bucket t.key text list Always) label after end
 seals_same {settings = settings} {h = h} {c = c} {most = most} {after = after} {end = end} text list label s t same plans =
-    subst (λ s. Plans most h c settings (GivenOf (MayComplete settings text list label s)) (CompleteUpload s.bucket s.key text list) label after end) same plans
+    subst (λ s. Plans most h c settings (GivenOf (MayComplete settings text list label s)) (CompleteUpload s.bucket s.key text list Always) label after end) same plans

@@ -14,14 +14,20 @@ use Rattle.s3_names.specs.Id.{id_digits}
 use Rattle.s3_names.specs.Key.{is_key}
 use Rattle.s3_machine.specs.Finish.{finished}
 use Rattle.s3_machine.specs.State.{Part}
-use Rattle.s3_machine.specs.Step.{IsPlace, IsProperList, S3Step}
+use Rattle.s3_machine.specs.Step.{S3Step}
+use Rattle.s3_machine.specs.Proper.{IsPlace, IsProperList}
 use Rattle.s3_machine.specs.Uploads.{chosen, etag_in, etag_listed, greatest_part, most_parts, part_item, rises, upload_etag}
+use Rattle.s3_machine.specs.declared.code.Code.{Code}
+use Rattle.account_calls.specs.Condition.{TellsRefusal}
 use Rattle.s3_machine.specs.declared.code.Code.TheVariants.{EntityTooSmall, InvalidPart}
 use Rattle.s3_machine.specs.declared.items.PartItem.{PartItem}
 use Rattle.s3_machine.specs.declared.operation.Label.{Label}
 use Rattle.s3_machine.specs.declared.operation.Listed.{Listed}
-use Rattle.s3_machine.specs.declared.operation.Op.TheVariants.{CompleteUpload}
-use Rattle.s3_machine.specs.declared.operation.Reply.TheVariants.{Completed, Refused}
+use Rattle.s3_machine.specs.declared.only_if.OnlyIf.{OnlyIf}
+use Rattle.s3_machine.specs.declared.only_if.OnlyIf.TheVariants.{Always}
+use Rattle.s3_machine.specs.Ops.{CompleteUpload}
+use Rattle.s3_machine.specs.declared.operation.Reply.TheVariants.{Refused}
+use Rattle.s3_machine.specs.Replies.{Completed}
 use Rattle.s3_machine.specs.declared.operation.Settings.{Settings}
 use Rattle.swift_calls.specs.Account.{SwiftAccount, SwiftObject, files}
 use Rattle.swift_calls.specs.Bodies.{plain_bytes}
@@ -44,7 +50,7 @@ use Rattle.plan_uploads.specs.declared.completed.Opened.{Opened}
 use Rattle.plan_uploads.specs.Completing.{Ascend, HasParts, IsOpenAs, MayComplete, by_number, completion_of, finishes, has_small_chosen_part, listed_parts}
 use Rattle.plan_uploads.proofs.ByNumber.{all_listed, found_by_number, items_ascend}
 use Rattle.plan_uploads.proofs.ChosenParts.{Chooses, chosen_found, chosen_missing, same_etags, same_list, same_small, sealed_have_etags}
-use Rattle.plan_uploads.proofs.CompletionSteps.{is_completed, part_refused, small_refused}
+use Rattle.plan_uploads.proofs.CompletionSteps.{condition_refused, is_completed, part_refused, small_refused}
 use Rattle.plan_uploads.proofs.PartsStand.{are_sealed, parts_have_text, same_bytes}
 use Rattle.plan_uploads.proofs.SealedTexts.{completion_etag}
 use Rattle.plan_uploads.proofs.Steps.{only_parts}
@@ -126,16 +132,22 @@ module _ (tree : SwiftAccount) (bucket key : List ℕ) (opened : Opened) (parts 
 
     module _ (settings : Settings) (list : List Listed) (label : Label) (ascends : rises list ≡ true) where
       -- a part of the list isn't there
-      pub invalid_part : (Ascend parts → listed_parts (by_number parts) list ≡ None) → S3Step settings (s3_state tree) (CompleteUpload bucket key text list) label (Refused InvalidPart) (s3_state tree)
-      invalid_part none = part_refused tree bucket key text opened is has.opens settings list label ascends (chosen_missing (parts_of segments text) parts found list (none parts_ascend))
+      pub invalid_part : (only_if : OnlyIf) → (Ascend parts → listed_parts (by_number parts) list ≡ None) → S3Step settings (s3_state tree) (CompleteUpload bucket key text list only_if) label (Refused InvalidPart) (s3_state tree)
+      invalid_part only_if none = part_refused tree bucket key text opened is has.opens settings list only_if label ascends (chosen_missing (parts_of segments text) parts found list (none parts_ascend))
 
       module _ (sealed : List SealedPart) (lists : Ascend parts → listed_parts (by_number parts) list ≡ Some sealed) where
         chose : (ps : List Part) × (chosen (parts_of segments text) list ≡ Some ps) × Chooses (parts_of segments text) list ps sealed
         chose = chosen_found (parts_of segments text) parts found list sealed (lists parts_ascend)
 
         -- one is too small
-        pub too_small : has_small_chosen_part settings.least_part sealed ≡ true → S3Step settings (s3_state tree) (CompleteUpload bucket key text list) label (Refused EntityTooSmall) (s3_state tree)
-        too_small small = small_refused tree bucket key text opened is has.opens settings list label ascends chose.0 chose.1 (same_small chose.2 settings.least_part ∙ small)
+        pub too_small : (only_if : OnlyIf) → has_small_chosen_part settings.least_part sealed ≡ true → S3Step settings (s3_state tree) (CompleteUpload bucket key text list only_if) label (Refused EntityTooSmall) (s3_state tree)
+        too_small only_if small = small_refused tree bucket key text opened is has.opens settings list only_if label ascends chose.0 chose.1 (same_small chose.2 settings.least_part ∙ small)
+
+        -- its condition refuses it
+        pub held_back : (only_if : OnlyIf) → has_small_chosen_part settings.least_part sealed ≡ false → (code : Code) → TellsRefusal bucket key only_if (s3_state tree) (Some code)
+            → S3Step settings (s3_state tree) (CompleteUpload bucket key text list only_if) label (Refused code) (s3_state tree)
+        held_back only_if large code told =
+            condition_refused tree bucket key text opened is has.opens settings list only_if label ascends chose.0 chose.1 (same_small chose.2 settings.least_part ∙ large) code told
 
   module _ (has : HasParts bucket key id opened parts tree) (settings : Settings) (list : List Listed) (label : Label) (ascends : rises list ≡ true)
       (sealed : List SealedPart) (lists : Ascend parts → listed_parts (by_number parts) list ≡ Some sealed) (large : has_small_chosen_part settings.least_part sealed ≡ false) where
@@ -165,11 +177,11 @@ module _ (tree : SwiftAccount) (bucket key : List ℕ) (opened : Opened) (parts 
     same_etag : upload_etag (map etag_in ps) ≡ upload_etag (map etag_listed list)
     same_etag = ap upload_etag (same_etags chooses)
 
-    completes_as : S3Step settings (s3_state tree) (CompleteUpload bucket key id list) label (Completed bucket key s.etag) (finishes s tree (s3_state tree))
+    completes_as : S3Step settings (s3_state tree) (CompleteUpload bucket key id list Always) label (Completed bucket key s.etag) (finishes s tree (s3_state tree))
     completes_as =
         let bytes = sym (same_bytes tree bucket id is sound has.opens.there chooses) in
         let lists_same = sym (same_list chooses) in
-        let done = is_completed tree bucket key id opened is has.opens settings list label ascends ps (chose id has settings list label ascends sealed lists).1 (same_small chooses settings.least_part ∙ large) in
+        let done = is_completed tree bucket key id opened is has.opens settings list Always label ascends ps (chose id has settings list label ascends sealed lists).1 (same_small chooses settings.least_part ∙ large) refl in
         record {
           id = done.id;
           free = done.free;

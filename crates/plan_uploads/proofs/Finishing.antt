@@ -7,9 +7,10 @@ use Rattle.s3_machine.specs.Step.{S3Step}
 use Rattle.s3_machine.specs.declared.operation.Label.{Label}
 use Rattle.s3_machine.specs.declared.operation.Listed.{Listed}
 use Rattle.s3_machine.specs.declared.operation.Op.{Op}
-use Rattle.s3_machine.specs.declared.operation.Op.TheVariants.{CompleteUpload}
+use Rattle.s3_machine.specs.declared.only_if.OnlyIf.TheVariants.{Always}
+use Rattle.s3_machine.specs.Ops.{CompleteUpload}
 use Rattle.s3_machine.specs.declared.operation.Reply.{Reply}
-use Rattle.s3_machine.specs.declared.operation.Reply.TheVariants.{Completed}
+use Rattle.s3_machine.specs.Replies.{Completed}
 use Rattle.s3_machine.specs.declared.operation.Settings.{Settings}
 use Rattle.swift_calls.specs.Account.{SwiftAccount, files}
 use Rattle.swift_calls.specs.History.{History, present}
@@ -40,7 +41,7 @@ abbrev completes : Sealed → Reply
 completes s = Completed s.bucket s.key s.etag
 
 abbrev asked : Sealed → List ℕ → List Listed → Op
-asked s text list = CompleteUpload s.bucket s.key text list
+asked s text list = CompleteUpload s.bucket s.key text list Always
 
 completed_is_own : (s : Sealed) → IsOwnReply (completes s)
 completed_is_own s = record { showable = tt; no_memory = λ e. cc; no_failure = λ e. cc; no_inconsistency = λ e. cc }

@@ -9,14 +9,15 @@ use Rattle.gate_base.specs.declared.page.Pair.{Pair}
 use Rattle.s3_names.specs.Bucket.{is_bucket}
 use Rattle.s3_names.specs.Id.{id_digits}
 use Rattle.s3_machine.specs.State.{Bucket, State}
-use Rattle.s3_machine.specs.Step.{S3Step, completes, completes_by, completes_open}
+use Rattle.s3_machine.specs.Step.{S3Step, completes, completes_by, completes_open, refusal_in}
 use Rattle.s3_machine.specs.Uploads.{kept_as, same_listed}
 use Rattle.s3_machine.specs.declared.code.Code.TheVariants.{NoSuchBucket, NoSuchUpload}
 use Rattle.s3_machine.specs.declared.operation.Label.{Label}
 use Rattle.s3_machine.specs.declared.operation.Listed.{Listed}
 use Rattle.s3_machine.specs.declared.operation.Settings.{Settings}
-use Rattle.s3_machine.specs.declared.operation.Op.TheVariants.{CompleteUpload}
-use Rattle.s3_machine.specs.declared.operation.Reply.TheVariants as reply
+use Rattle.s3_machine.specs.declared.only_if.OnlyIf.{OnlyIf}
+use Rattle.s3_machine.specs.Ops.{CompleteUpload}
+use Rattle.s3_machine.specs.Replies as reply
 use Rattle.s3_machine.proofs.lemmas.StepLemmas.{in_found, in_missing, step_repeated, steps}
 use Rattle.swift_calls.specs.Account.{SwiftAccount, files}
 use Rattle.upload_texts.specs.declared.record.Record.{Record}
@@ -98,26 +99,26 @@ no_completion tree b key text list is sound settled there none = record {
 
 -- ---- the steps
 
-module _ (settings : Settings) (bucket key text : List ℕ) (list : List Listed) (label : Label) where
-  pub complete_missing : (state : State) → LacksBucket bucket state → S3Step settings state (CompleteUpload bucket key text list) label (reply.Refused NoSuchBucket) state
-  complete_missing state missing = steps _ _ 0 tt (in_missing state bucket missing (completes settings state bucket key text list label.moment))
+module _ (settings : Settings) (bucket key text : List ℕ) (list : List Listed) (only_if : OnlyIf) (label : Label) where
+  pub complete_missing : (state : State) → LacksBucket bucket state → S3Step settings state (CompleteUpload bucket key text list only_if) label (reply.Refused NoSuchBucket) state
+  complete_missing state missing = steps _ _ 0 tt (in_missing state bucket missing (completes settings state bucket key text list only_if label.moment))
 
   module _ (tree : SwiftAccount) (is : is_bucket bucket ≡ true) where
-    pub complete_lost : LacksCompletion bucket key text list tree → S3Step settings (s3_state tree) (CompleteUpload bucket key text list) label (reply.Refused NoSuchUpload) (s3_state tree)
+    pub complete_lost : LacksCompletion bucket key text list tree → S3Step settings (s3_state tree) (CompleteUpload bucket key text list only_if) label (reply.Refused NoSuchUpload) (s3_state tree)
     complete_lost lacks =
         let it = bucket_there tree bucket is lacks.settled lacks.there in
         let b : Bucket = bucket_from (files tree (uploads_name bucket)) (files tree (segments_name bucket)) it.folder in
         let none : LacksUpload bucket key text tree = record { settled = lacks.settled; there = lacks.there; none = lacks.closed } in
         let kept : kept_as key list (get b.kept text) ≡ None = ap (kept_as key list) (kept_is tree bucket is lacks.settled lacks.there text) ∙ lacks.unkept in
         steps _ _ 0 tt (
-        in_found (s3_state tree) bucket b it.is (completes settings (s3_state tree) bucket key text list label.moment)
-        ∙ ap (λ v. completes_by v settings (s3_state tree) bucket key text list label.moment b) kept
-        ∙ no_upload bucket key text tree is none (completes_open settings (s3_state tree) bucket text list label.moment))
+        in_found (s3_state tree) bucket b it.is (completes settings (s3_state tree) bucket key text list only_if label.moment)
+        ∙ ap (λ v. completes_by v settings (s3_state tree) bucket key text list only_if label.moment b) kept
+        ∙ no_upload bucket key text tree is none (completes_open settings (s3_state tree) bucket text list (refusal_in only_if key b) label.moment))
 
-    pub completed_again : (etag : List ℕ) → IsCompleted bucket key text list etag tree → S3Step settings (s3_state tree) (CompleteUpload bucket key text list) label (reply.Completed bucket key etag) (s3_state tree)
+    pub completed_again : (etag : List ℕ) → IsCompleted bucket key text list etag tree → S3Step settings (s3_state tree) (CompleteUpload bucket key text list only_if) label (reply.Completed bucket key etag) (s3_state tree)
     completed_again etag completed =
         let it = bucket_there tree bucket is completed.settled completed.there in
-        step_repeated settings (s3_state tree) bucket label (bucket_from (files tree (uploads_name bucket)) (files tree (segments_name bucket)) it.folder) it.is key text list etag
+        step_repeated settings (s3_state tree) bucket label (bucket_from (files tree (uploads_name bucket)) (files tree (segments_name bucket)) it.folder) it.is key text list only_if etag
         (ap (kept_as key list) (kept_is tree bucket is completed.settled completed.there text) ∙ completed.kept)
 
 -- ---- how many segments are counted

@@ -4,6 +4,7 @@ pub mod Beside
 pub mod ByNumber
 pub mod ChosenParts
 pub mod CompletionCalls
+pub mod CompletionConditions
 pub mod CompletionEnds
 pub mod CompletionSteps
 pub mod Completions

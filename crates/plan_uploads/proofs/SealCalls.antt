@@ -1,5 +1,5 @@
 -- What PUT of the text of a completion does to an account on which none is sealed: in its state the completion is finished.
-use Rattle.std.specs.Prelude.{◌≡◌, ◌≢◌, ◌≤◌, ◌+◌, ℕ, true, cond, codes, is_some, List, [], length, Option, None, Some, Result, Ok, Err, IfOk}
+use Rattle.std.specs.Prelude.{◌≡◌, ◌≢◌, ◌≤◌, ◌+◌, ℕ, true, false, cond, codes, is_some, List, [], length, Option, None, Some, Result, Ok, Err, IfOk}
 use Rattle.std.specs.FinMap.{get, insert}
 use Rattle.std.specs.Option.{option_map}
 use Rattle.std.specs.Result.{IsErrAnd}
@@ -80,7 +80,7 @@ module _ (law : CompletionSealed) (tree : SwiftAccount) (request : SwiftRequest)
   stored = let short = put.short in record { named = file_name _ sealed_fits; sized = (omega (arith, short)) }
 
   done : SealsCompletion tree (put_sealed_text text) s
-  done = law tree (codes "application/json") [] text s put.reads given.settled.gateway given.is stored sound (unsealed_of given.settled)
+  done = law tree (codes "application/json") [] text false s put.reads given.settled.gateway given.is stored sound (unsealed_of given.settled)
 
   answered : swift_step request tree ≡ put_object (Some (some_value _ given.settled.gateway).0) gateway_name sealed_name (file_put (codes "application/json") [] text) tree
   answered =

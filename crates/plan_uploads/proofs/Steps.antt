@@ -19,8 +19,8 @@ use Rattle.s3_machine.specs.declared.items.PartItem.{PartItem}
 use Rattle.s3_machine.specs.declared.items.UploadItem.{UploadItem}
 use Rattle.s3_machine.specs.declared.operation.Label.{Label}
 use Rattle.s3_machine.specs.declared.operation.Settings.{Settings}
-use Rattle.s3_machine.specs.declared.operation.Op.TheVariants.{ListUploads, CreateUpload, UploadPart, ListParts, AbortUpload}
-use Rattle.s3_machine.specs.declared.operation.Reply.TheVariants as reply
+use Rattle.s3_machine.specs.Ops.{ListUploads, CreateUpload, UploadPart, ListParts, AbortUpload}
+use Rattle.s3_machine.specs.Replies as reply
 use Rattle.s3_machine.proofs.lemmas.StepLemmas.{steps, in_missing, in_found, step_part, step_parts, step_aborted, step_started, start_with_another_acl}
 use Rattle.swift_calls.specs.Account.{SwiftAccount, files}
 use Rattle.upload_records.specs.Native.{IsSettled}

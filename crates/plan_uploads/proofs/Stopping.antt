@@ -13,7 +13,7 @@ use Rattle.account_calls.specs.declared.fault.PlanFault.{PlanFault}
 use Rattle.account_calls.specs.declared.fault.PlanFault.TheVariants.{Failed, Memory, Inconsistent}
 use Rattle.account_calls.specs.Calls.{Asks, Bound}
 use Rattle.account_calls.specs.Refusals.{Unrefused, is_refusal}
-use Rattle.account_calls.specs.Shows.{alone}
+use Rattle.account_calls.specs.Shows.{in_upload}
 use Rattle.account_calls.proofs.lemmas.Refusals.{no_refusal}
 use Rattle.plan_uploads.specs.Completing.{ShownByParts, StopsAtBucket, end_complete_upload_sealed, lacks_bucket, to_complete_by}
 use Rattle.plan_uploads.specs.Plans.{gone_behind}
@@ -47,5 +47,5 @@ sealed_unrefused (Err Memory) reply made = made
 sealed_unrefused (Err Inconsistent) reply made = tt
 
 pub shown_by_none : (end : Result Reply PlanFault) → Unrefused end → ShownByParts end
-shown_by_none (Ok reply) made = no_refusal alone reply made
+shown_by_none (Ok reply) made = no_refusal in_upload reply made
 shown_by_none (Err fault) made = tt

@@ -39,7 +39,7 @@ use Rattle.account_calls.specs.Told.{Idles}
 use Rattle.account_calls.proofs.lemmas.Walk.{idles_none, idles_trans, cause_after, keeps_after}
 use Rattle.upload_calls.specs.Records.{InBucket, TellsRecord}
 use Rattle.upload_calls.proofs.lemmas.Taking.{met_after, same_after}
-use Rattle.plan_uploads.specs.declared.listed_uploads.AskedUploads.{AskedUploads}
+use Rattle.s3_machine.specs.declared.items.UploadsAsked.{UploadsAsked}
 use Rattle.plan_uploads.specs.Listing.{added, added_if, row_due, row_of_record, AddsRow, AllShown, HasRecord, HasRecords, TellsRow, TellsRows}
 
 -- ---- rows with dates
@@ -76,7 +76,7 @@ there_of tree has = record { settled = has.settled; is = has.is.there }
 met_there : {bucket : List ℕ} {id : ℕ} {a : History} → Met (GivenOf (HasRecord bucket id)) a → Met (GivenOf (InBucket bucket)) a
 met_there {a = a} met = record { observable = met.observable; sound = met.sound; has = there_of (present a) met.has }
 
-module _ (bucket : List ℕ) (asked : AskedUploads) (id : ℕ) {a b : History} (old : Names UploadItem) where
+module _ (bucket : List ℕ) (asked : UploadsAsked) (id : ℕ) {a b : History} (old : Names UploadItem) where
   -- a record that is no row
   pub asks_no_row : (told : Option Record) → row_of_record asked id told ≡ None → Asks (always 1) a b (GivenOf (InBucket bucket)) (TellsOf (TellsRecord bucket id)) (Ok told)
       → Asks (always 1) a b (GivenOf (HasRecord bucket id)) (TellsOf (TellsRow asked bucket id old old)) (Ok tt)
@@ -97,7 +97,7 @@ module _ (bucket : List ℕ) (asked : AskedUploads) (id : ℕ) {a b : History} (
     settled = asks.settled;
   }
 
-module _ (bucket : List ℕ) (asked : AskedUploads) (id : ℕ) {a b : History} (key content_type : List ℕ) (meta : List Pair) (started : ℕ) (told : Option Record) (is : told ≡ Some (Open key content_type meta started))
+module _ (bucket : List ℕ) (asked : UploadsAsked) (id : ℕ) {a b : History} (key content_type : List ℕ) (meta : List Pair) (started : ℕ) (told : Option Record) (is : told ≡ Some (Open key content_type meta started))
     (asks : Asks (always 1) a b (GivenOf (InBucket bucket)) (TellsOf (TellsRecord bucket id)) (Ok told)) (old new : Names UploadItem) where
   record_is : (tree : SwiftAccount) → TellsRecord bucket id tree told → record_at (files tree (uploads_name bucket)) (id_digits id) ≡ Some (Open key content_type meta started)
   record_is tree tells = tells ∙ is
@@ -153,10 +153,10 @@ add_option es (Some e) = add_by es e (find name_cmp e.0 es) refl
 
 -- ---- one after another
 
-abbrev rows_of : AskedUploads → List ℕ → SwiftAccount → List ℕ → Names UploadItem
+abbrev rows_of : UploadsAsked → List ℕ → SwiftAccount → List ℕ → Names UploadItem
 rows_of asked bucket tree ids = from_entries {R = name_cmp} (filter_map (row_due asked bucket tree) ids)
 
-one_more : (asked : AskedUploads) (bucket : List ℕ) (tree : SwiftAccount) (ids : List ℕ) (i id : ℕ) → i < length ids → id ≡ get_or ids i 0
+one_more : (asked : UploadsAsked) (bucket : List ℕ) (tree : SwiftAccount) (ids : List ℕ) (i id : ℕ) → i < length ids → id ≡ get_or ids i 0
     → added_if (row_due asked bucket tree id) (rows_of asked bucket tree (take i ids)) ≡ rows_of asked bucket tree (take (i + 1) ids)
 one_more asked bucket tree ids i id near is =
     add_option (filter_map (row_due asked bucket tree) (take i ids)) (row_due asked bucket tree id)
@@ -165,7 +165,7 @@ one_more asked bucket tree ids i id near is =
     ∙ sym (filter_map-append (row_due asked bucket tree) (take i ids) (get_or ids i 0 ∷ [])) ∙ ap (filter_map (row_due asked bucket tree)) (sym (take_more ids i 0 near)))
 
 -- the rows of the first ids were added
-pub record Gathered (a b : History) (asked : AskedUploads) (bucket ids : List ℕ) (i : ℕ) (rows : Names UploadItem) : Type 0 where
+pub record Gathered (a b : History) (asked : UploadsAsked) (bucket ids : List ℕ) (i : ℕ) (rows : Names UploadItem) : Type 0 where
   pub on : GoesOn a b
   pub faults : b.faults ≡ a.faults
   pub settled : IsTrue a.observable → IsSettled (present a) → IsSettled (present b)
@@ -177,7 +177,7 @@ take_none : (ids : List ℕ) → take 0 ids ≡ []
 take_none [] = refl
 take_none (id ∷ ids) = refl
 
-pub gathered_none : (a : History) (asked : AskedUploads) (bucket ids : List ℕ) (rows : Names UploadItem) → rows ≡ empty → Gathered a a asked bucket ids 0 rows
+pub gathered_none : (a : History) (asked : UploadsAsked) (bucket ids : List ℕ) (rows : Names UploadItem) → rows ≡ empty → Gathered a a asked bucket ids 0 rows
 gathered_none a asked bucket ids rows none = record {
   on = goes_none a;
   faults = refl;
@@ -187,7 +187,7 @@ gathered_none a asked bucket ids rows none = record {
   are = λ met. none ∙ ap (rows_of asked bucket (present a)) (sym (take_none ids));
 }
 
-module _ {a b : History} {asked : AskedUploads} {bucket ids : List ℕ} {i : ℕ} {rows : Names UploadItem} (so : Gathered a b asked bucket ids i rows) (id : ℕ) (near : i < length ids) (is : id ≡ get_or ids i 0) where
+module _ {a b : History} {asked : UploadsAsked} {bucket ids : List ℕ} {i : ℕ} {rows : Names UploadItem} (so : Gathered a b asked bucket ids i rows) (id : ℕ) (near : i < length ids) (is : id ≡ get_or ids i 0) where
   -- which has a record
   one_of : {h : History} → Met (GivenOf (HasRecords bucket ids)) h → Met (GivenOf (HasRecord bucket id)) h
   one_of {h = h} met = record {
@@ -235,7 +235,7 @@ module _ {a b : History} {asked : AskedUploads} {bucket ids : List ℕ} {i : ℕ
       })
 
 -- all were
-pub gathered_all : {a b : History} {asked : AskedUploads} {bucket ids : List ℕ} {i : ℕ} {rows : Names UploadItem} → Gathered a b asked bucket ids i rows → i ≤ length ids → length ids ≤ i
+pub gathered_all : {a b : History} {asked : UploadsAsked} {bucket ids : List ℕ} {i : ℕ} {rows : Names UploadItem} → Gathered a b asked bucket ids i rows → i ≤ length ids → length ids ≤ i
     → Asks (always (length ids)) a b (GivenOf (HasRecords bucket ids)) (TellsOf (TellsRows asked bucket ids)) (Ok rows)
 gathered_all {a = a} {b = b} {asked = asked} {bucket = bucket} {ids = ids} {i = i} so within all =
     let before = so.calls in

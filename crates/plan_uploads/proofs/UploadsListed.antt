@@ -45,15 +45,15 @@ use Rattle.upload_calls.specs.Records.{InBucket, TellsUploads, uploads_in}
 use Rattle.upload_calls.proofs.lemmas.PartWalk.{cut_none}
 use Rattle.upload_calls.proofs.lemmas.RecordIds.{rows_within}
 use Rattle.upload_calls.proofs.lemmas.Taking.{met_after, same_after}
-use Rattle.plan_uploads.specs.declared.listed_uploads.AskedUploads.{AskedUploads}
+use Rattle.s3_machine.specs.declared.items.UploadsAsked.{UploadsAsked}
 use Rattle.plan_uploads.specs.Listing.{row_due, row_of_record, AllShown, HasRecords, TellsListed, TellsRows}
 
 -- ---- one record
 
-abbrev listed_by : AskedUploads → List ℕ × Upload → Bool
+abbrev listed_by : UploadsAsked → List ℕ × Upload → Bool
 listed_by asked = is_upload_listed asked.prefix asked.key_marker asked.id_marker
 
-module _ (asked : AskedUploads) (S : Names SwiftObject) (id : ℕ) (name : List ℕ) (named : name ≡ id_digits id) (read : id_of name ≡ Some id) where
+module _ (asked : UploadsAsked) (S : Names SwiftObject) (id : ℕ) (name : List ℕ) (named : name ≡ id_digits id) (read : id_of name ≡ Some id) where
   chosen : (t : Bool) (row : List ℕ × UploadItem) (u : List ℕ × Upload) → row ≡ upload_row u → (L : List (List ℕ × UploadItem)) (R : List (List ℕ × Upload)) → L ≡ map upload_row R
       → cons_option (cond t (Some row) None) L ≡ map upload_row (cond t (u ∷ R) R)
   chosen true row u is L R same = λ k. is k ∷ same k
@@ -79,7 +79,7 @@ every P [] h n d near = absurd (omega (arith, near))
 every P (x ∷ xs) h zero d near = h.0
 every P (x ∷ xs) h (suc n) d near = every P xs h.1 n d (omega (arith, near))
 
-module _ (asked : AskedUploads) (tree : SwiftAccount) (bucket : List ℕ) (is : is_bucket bucket ≡ true) (sound : IsConsistent tree) (there : IsThere tree bucket) where
+module _ (asked : UploadsAsked) (tree : SwiftAccount) (bucket : List ℕ) (is : is_bucket bucket ≡ true) (sound : IsConsistent tree) (there : IsThere tree bucket) where
   abbrev records : Names SwiftObject
   records = files tree (uploads_name bucket)
 
@@ -158,7 +158,7 @@ ids_within tree bucket =
     let within = rows_within tree bucket [] in
     omega (arith, few, within, length-map rows item_at)
 
-module _ {a b : History} (asked : AskedUploads) (bucket : List ℕ) (is : is_bucket bucket ≡ true) {ids : List ℕ} (first : Asks (by_account (pages (records_of (present a) bucket))) a b (GivenOf (InBucket bucket)) (TellsOf (TellsIds bucket)) (Ok ids)) where
+module _ {a b : History} (asked : UploadsAsked) (bucket : List ℕ) (is : is_bucket bucket ≡ true) {ids : List ℕ} (first : Asks (by_account (pages (records_of (present a) bucket))) a b (GivenOf (InBucket bucket)) (TellsOf (TellsIds bucket)) (Ok ids)) where
   idles_first : Met (GivenOf (InBucket bucket)) a → Idles b a.called b.called
   idles_first met = let keeps = first.effect met in record { quiet = keeps.0; still = keeps.1; same = keeps.2.same }
 
@@ -217,17 +217,16 @@ module _ {a b : History} (asked : AskedUploads) (bucket : List ℕ) (is : is_buc
   }
 
 -- the same of the ids as they are handed on
-pub listed_of : {a b c : History} (asked : AskedUploads) (bucket : List ℕ) → is_bucket bucket ≡ true → {ids told : List ℕ} → told ≡ ids → Asks (by_account (pages (records_of (present a) bucket))) a b (GivenOf (InBucket bucket)) (TellsOf (TellsIds bucket)) (Ok ids)
+pub listed_of : {a b c : History} (asked : UploadsAsked) (bucket : List ℕ) → is_bucket bucket ≡ true → {ids told : List ℕ} → told ≡ ids → Asks (by_account (pages (records_of (present a) bucket))) a b (GivenOf (InBucket bucket)) (TellsOf (TellsIds bucket)) (Ok ids)
     → (r : Result (Names UploadItem) PlanFault) → Asks (always (length told)) b c (GivenOf (HasRecords bucket told)) (TellsOf (TellsRows asked bucket told)) r
     → Asks (by_account (pages (records_of (present a) bucket) + records_of (present a) bucket)) a c (GivenOf (InBucket bucket)) (TellsOf (TellsListed asked bucket)) r
 listed_of {a = a} {b = b} asked bucket name is first r then = listed asked bucket name (subst (λ ns. Asks (by_account (pages (records_of (present a) bucket))) a b (GivenOf (InBucket bucket)) (TellsOf (TellsIds bucket)) (Ok ns)) (sym is) first) r then
 
 -- ---- what is told of the state
 
-module _ {most : Bound} {a b : History} (bucket : List ℕ) (is : is_bucket bucket ≡ true) (prefix key_marker id_marker : List ℕ) (max : ℕ) (asked : AskedUploads)
-    (same : asked ≡ record { prefix = prefix; key_marker = key_marker; id_marker = id_marker }) where
+module _ {most : Bound} {a b : History} (bucket : List ℕ) (is : is_bucket bucket ≡ true) (asked : UploadsAsked) where
   pub told : {rows : Names UploadItem} → Asks most a b (GivenOf (InBucket bucket)) (TellsOf (TellsListed asked bucket)) (Ok rows) → (items : List UploadItem) → items ≡ map (λ row. row.1) (entries rows)
-      → (result : List UploadItem × Bool) → result ≡ cut max items → Asks most a b (GivenOf (InBucket bucket)) (Tells (TellsUploads bucket prefix key_marker id_marker max)) (Ok result)
+      → (result : List UploadItem × Bool) → result ≡ cut asked.max items → Asks most a b (GivenOf (InBucket bucket)) (Tells (TellsUploads bucket asked.prefix asked.key_marker asked.id_marker asked.max)) (Ok result)
   told {rows = rows} asks items are result cuts = record {
     grows = asks.grows;
     cause = asks.cause;
@@ -240,7 +239,7 @@ module _ {most : Bound} {a b : History} (bucket : List ℕ) (is : is_bucket buck
           keeps.0,
           keeps.1,
           record {
-            of_state = cuts ∙ ap (cut max) (are ∙ all) ∙ ap (λ (x : AskedUploads). cut max (uploads_after x.prefix x.key_marker x.id_marker (uploads_in (get (s3_state tree) bucket)))) same;
+            of_state = cuts ∙ ap (cut asked.max) (are ∙ all);
             same = keeps.2.same;
           },
         );
@@ -249,8 +248,8 @@ module _ {most : Bound} {a b : History} (bucket : List ℕ) (is : is_bucket buck
 
   -- memory ran out behind the calls
   pub out_of_memory : {rows : Names UploadItem} → Asks most a b (GivenOf (InBucket bucket)) (TellsOf (TellsListed asked bucket)) (Ok rows) → (result : Result (List UploadItem × Bool) PlanFault) → IsErrAnd result (λ e. e ≡ Memory)
-      → Asks most a b (GivenOf (InBucket bucket)) (Tells (TellsUploads bucket prefix key_marker id_marker max)) result
-  out_of_memory asks result gives = subst (Asks most a b (GivenOf (InBucket bucket)) (Tells (TellsUploads bucket prefix key_marker id_marker max))) (sym (err_is result Memory gives)) (record {
+      → Asks most a b (GivenOf (InBucket bucket)) (Tells (TellsUploads bucket asked.prefix asked.key_marker asked.id_marker asked.max)) result
+  out_of_memory asks result gives = subst (Asks most a b (GivenOf (InBucket bucket)) (Tells (TellsUploads bucket asked.prefix asked.key_marker asked.id_marker asked.max))) (sym (err_is result Memory gives)) (record {
     grows = asks.grows;
     cause = asks.cause;
     effect = λ met. let keeps = asks.effect met in (keeps.0, keeps.1);
@@ -259,8 +258,8 @@ module _ {most : Bound} {a b : History} (bucket : List ℕ) (is : is_bucket buck
 
   -- the fault of the calls is handed on
   pub handed_on : {f : PlanFault} → Asks most a b (GivenOf (InBucket bucket)) (TellsOf (TellsListed asked bucket)) (Err f) → (result : Result (List UploadItem × Bool) PlanFault) → IsErrAnd result (λ e. e ≡ f)
-      → Asks most a b (GivenOf (InBucket bucket)) (Tells (TellsUploads bucket prefix key_marker id_marker max)) result
-  handed_on {f = f} asks result gives = subst (Asks most a b (GivenOf (InBucket bucket)) (Tells (TellsUploads bucket prefix key_marker id_marker max))) (sym (err_is result f gives)) (record {
+      → Asks most a b (GivenOf (InBucket bucket)) (Tells (TellsUploads bucket asked.prefix asked.key_marker asked.id_marker asked.max)) result
+  handed_on {f = f} asks result gives = subst (Asks most a b (GivenOf (InBucket bucket)) (Tells (TellsUploads bucket asked.prefix asked.key_marker asked.id_marker asked.max))) (sym (err_is result f gives)) (record {
     grows = asks.grows;
     cause = same_cause f asks.cause;
     effect = λ met. same_keeps f (asks.effect met);
@@ -272,7 +271,7 @@ module _ {most : Bound} {a b : History} (bucket : List ℕ) (is : is_bucket buck
       same_cause Memory cause = cause
       same_cause Inconsistent cause = cause
 
-      same_keeps : (f : PlanFault) → Keeps b a.called b.called (TellsOf (TellsListed asked bucket)) (Err f) → Keeps b a.called b.called (Tells (TellsUploads bucket prefix key_marker id_marker max)) (Err f)
+      same_keeps : (f : PlanFault) → Keeps b a.called b.called (TellsOf (TellsListed asked bucket)) (Err f) → Keeps b a.called b.called (Tells (TellsUploads bucket asked.prefix asked.key_marker asked.id_marker asked.max)) (Err f)
       same_keeps Failed keeps = keeps
       same_keeps Memory keeps = keeps
       same_keeps Inconsistent never = never

@@ -13,17 +13,19 @@ use Rattle.s3_machine.specs.State.{State}
 use Rattle.s3_machine.specs.Uploads.{etag_listed, kept_as, same_listed, upload_etag}
 use Rattle.s3_machine.specs.declared.code.Code.TheVariants.{InconsistentStore}
 use Rattle.s3_machine.specs.declared.items.PartItem.{PartItem}
+use Rattle.s3_machine.specs.declared.only_if.OnlyIf.TheVariants.{Always}
 use Rattle.s3_machine.specs.declared.operation.Listed.{Listed}
 use Rattle.s3_machine.specs.Step.{S3Step}
 use Rattle.s3_machine.specs.declared.operation.Label.{Label}
-use Rattle.s3_machine.specs.declared.operation.Op.TheVariants.{CompleteUpload}
+use Rattle.s3_machine.specs.Ops.{CompleteUpload}
 use Rattle.s3_machine.specs.declared.operation.Reply.{Reply}
-use Rattle.s3_machine.specs.declared.operation.Reply.TheVariants.{Completed, Refused}
+use Rattle.s3_machine.specs.declared.operation.Reply.TheVariants.{Refused}
+use Rattle.s3_machine.specs.Replies.{Completed}
 use Rattle.s3_machine.specs.declared.operation.Settings.{Settings}
 use Rattle.swift_calls.specs.Account.{SwiftAccount, files}
 use Rattle.swift_calls.specs.History.{History, present}
 use Rattle.swift_calls.specs.declared.calls.SwiftRequest.{SwiftRequest}
-use Rattle.swift_calls.specs.declared.calls.SwiftRequest.TheVariants.{PutObject}
+use Rattle.swift_calls.specs.Files.{PutObject}
 use Rattle.upload_texts.specs.Sealed.{has_sealed_text}
 use Rattle.upload_texts.specs.declared.record.Record.{Record}
 use Rattle.upload_texts.specs.declared.record.Record.TheVariants.{Open, Done}
@@ -37,7 +39,7 @@ use Rattle.account_calls.specs.Calls.{always, Becomes, GivenOf, Grows, LacksBuck
 use Rattle.account_calls.specs.Fault.{CausesFault}
 use Rattle.account_calls.specs.Plan.{reply_of}
 use Rattle.account_calls.specs.Refusals.{shown_by}
-use Rattle.account_calls.specs.Shows.{alone}
+use Rattle.account_calls.specs.Shows.{in_upload}
 use Rattle.account_calls.specs.Stutters.{LastFailed}
 use Rattle.account_calls.specs.declared.fault.PlanFault.{PlanFault}
 use Rattle.account_calls.specs.declared.fault.PlanFault.TheVariants.{Failed, Memory, Inconsistent}
@@ -171,10 +173,10 @@ pub record HasParts (bucket key text : List ℕ) (opened : Opened) (parts : List
   pub opens : IsOpenAs bucket key text opened tree
   pub are : parts ≡ items_above 0 (parts_of (files tree (segments_name bucket)) text)
 
--- the completion may be sealed, and by what it finishes the operation is answered
+-- the completion may be sealed, and by what it finishes the operation without a condition is answered
 pub record CompletesBy (settings : Settings) (text : List ℕ) (list : List Listed) (label : Label) (s : Sealed) (tree : SwiftAccount) : Type 0 where
   pub stands : SealedIn tree s
-  pub step : S3Step settings (s3_state tree) (CompleteUpload s.bucket s.key text list) label (Completed s.bucket s.key s.etag) (finishes s tree (s3_state tree))
+  pub step : S3Step settings (s3_state tree) (CompleteUpload s.bucket s.key text list Always) label (Completed s.bucket s.key s.etag) (finishes s tree (s3_state tree))
 
 -- and it has a text
 pub record MayComplete (settings : Settings) (text : List ℕ) (list : List Listed) (label : Label) (s : Sealed) (tree : SwiftAccount) : Type 0 where
@@ -218,7 +220,7 @@ known_in result = known_after_completion (unfinished_in result)
 
 -- it isn't refused, or for a reason that the parts of the upload show
 abbrev pub ShownByParts : Result Reply PlanFault → Type 0
-ShownByParts end = IfOk end (λ reply. shown_by alone reply ≡ None)
+ShownByParts end = IfOk end (λ reply. shown_by in_upload reply ≡ None)
 
 -- what such a fault says, by the counts of faults before the calls and after them, over every store: one failed; or memory ran out, and
 -- none failed; or the store was found inconsistent, as the reply says too, and none failed

@@ -8,9 +8,11 @@ use Rattle.s3_machine.specs.declared.items.PartItem.{PartItem}
 use Rattle.s3_machine.specs.declared.items.UploadItem.{UploadItem}
 use Rattle.s3_machine.specs.declared.operation.Label.{Label}
 use Rattle.s3_machine.specs.declared.operation.Op.{Op}
-use Rattle.s3_machine.specs.declared.operation.Op.TheVariants.{CreateUpload, UploadPart, CompleteUpload}
+use Rattle.s3_machine.specs.declared.operation.Op.TheVariants.{OnUploads}
+use Rattle.s3_machine.specs.declared.operation.UploadsOp.TheVariants as uploads_op
+use Rattle.s3_machine.specs.Ops.{CreateUpload, UploadPart, CompleteUpload}
 use Rattle.s3_machine.specs.declared.operation.Reply.{Reply}
-use Rattle.s3_machine.specs.declared.operation.Reply.TheVariants as reply
+use Rattle.s3_machine.specs.Replies as reply
 use Rattle.swift_calls.specs.Account.{SwiftAccount}
 use Rattle.swift_calls.specs.History.{History}
 use Rattle.upload_records.specs.Native.{IsSettled, s3_state}
@@ -74,7 +76,7 @@ pub record StandsStarted (bucket key content_type : List ℕ) (meta : List Pair)
 -- what an operation that was done leaves where it stands, by what is known of the store then; of one that puts no file nothing is
 -- said
 abbrev pub UploadStands : Op → Label → Known → History → History → SwiftAccount → Type 0
-UploadStands (CreateUpload bucket key acl content_type meta) label known old new tree = StandsStarted bucket key content_type meta label.moment tree
-UploadStands (UploadPart bucket key text number body) label known old new tree = StandsPart bucket text number body label.moment tree
-UploadStands (CompleteUpload bucket key text list) label known old new tree = ToldOrStands known bucket key list label.moment old new tree
+UploadStands (OnUploads (uploads_op.CreateUpload start)) label known old new tree = StandsStarted start.bucket start.key start.described.content_type start.described.meta label.moment tree
+UploadStands (OnUploads (uploads_op.UploadPart part)) label known old new tree = StandsPart part.bucket part.id part.number part.body label.moment tree
+UploadStands (OnUploads (uploads_op.CompleteUpload done)) label known old new tree = ToldOrStands known done.bucket done.key done.list label.moment old new tree
 UploadStands _ label known old new tree = Unit {0}

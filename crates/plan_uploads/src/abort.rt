@@ -1,9 +1,10 @@
 //! The plan of AbortUpload.
-ghost use Rattle.std.specs.Prelude.{◌≡◌, ◌+◌, ℕ, true, List};
-ghost use Rattle.s3_names.specs.Bucket.{is_bucket};
+ghost use Rattle.std.specs.Prelude.{◌≡◌, ◌+◌, ℕ, List};
 ghost use Rattle.s3_names.specs.Id.{id_digits};
 ghost use Rattle.s3_machine.specs.declared.operation.Label.{Label};
-ghost use Rattle.s3_machine.specs.declared.operation.Op.TheVariants.{AbortUpload};
+ghost use Rattle.s3_machine.specs.declared.operation.Op.TheVariants.{OnUploads};
+ghost use Rattle.s3_machine.specs.declared.operation.UploadsOp.TheVariants.{AbortUpload};
+ghost use Rattle.s3_machine.specs.Ops as ops;
 ghost use Rattle.swift_calls.specs.History.{present};
 ghost use Rattle.upload_records.specs.Layout.{segments_name, segments_prefix};
 ghost use Rattle.account_calls.specs.Answers.{clears, named_by, pages};
@@ -19,8 +20,8 @@ ghost use Rattle.plan_uploads.specs.Replies.{AnswersUpload};
 
 use account_calls::{PlanFault, Settled, purge};
 use gate_base::Bytes;
-use s3_machine::{Code, Reply};
-use std::alloc::Global;
+use s3_machine::{Code, Reply, UploadName};
+use s3_names::BucketName;
 use swift_calls::Swift;
 use upload_calls::{Found, drop_record, find_upload};
 use upload_records::{segments_container, segments_prefix};
@@ -31,48 +32,43 @@ use upload_records::{segments_container, segments_prefix};
 /// all the same, and segments may be left; where no call failed none is. The faults are those of the calls before, and Memory
 /// where memory ran out behind it.
 pub(crate) fn abort_upload<W: Swift>(
-    alloc: Global,
     state: &mut Settled<'_, W>,
-    bucket: &Bytes,
-    key: &Bytes,
-    text: &Bytes,
+    upload: &UploadName,
 ) -> Result<Reply, PlanFault>
-    requires { is_bucket bucket.now ≡ true }
     ensures stays { Stays state.old state.new }
     ensures plans { (label : Label)
         → Plans (by_account (3 + pages
-        (named_by (present (W.history state.old.store.now)) bucket.now text.now)
-        + named_by (present (W.history state.old.store.now)) bucket.now text.now))
+        (named_by (present (W.history state.old.store.now)) upload.now.bucket upload.now.id)
+        + named_by (present (W.history state.old.store.now)) upload.now.bucket upload.now.id))
         (W.history state.old.store.now) (W.history state.new.store.now) state.old.settings.now
-        (Given Any) (AbortUpload bucket.now key.now text.now) label known.Settled result }
-    ensures beside { (label : Label) → LeavesBeside (clears bucket.now text.now) label
+        (Given Any) (OnUploads (AbortUpload upload.now)) label known.Settled result }
+    ensures beside { (label : Label) → LeavesBeside (clears upload.now.bucket upload.now.id) label
         (W.history state.old.store.now) (W.history state.new.store.now) (Given Any) result }
     ensures stops { Stops alone 0 (W.history state.old.store.now) (W.history state.new.store.now) result }
     ensures kind { AnswersUpload result }
 {
-    match find_upload(alloc, state, bucket, key, text)? {
+    upload.bucket.fits();
+    match find_upload(state, &upload.bucket, &upload.key, &upload.id)? {
         Found::NoBucket => Ok(Reply::Refused(Code::NoSuchBucket)),
         Found::NoUpload => Ok(Reply::Refused(Code::NoSuchUpload)),
-        Found::Open(id) => abort_open(alloc, state, bucket, id),
+        Found::Open(id) => abort_open(state, &upload.bucket, id),
     }
 }
 
 /// The rest of AbortUpload, of an upload that is open. The names are written before the DELETE of the record, so that behind it
 /// the deletion of the segments alone may want memory.
 fn abort_open<W: Swift>(
-    alloc: Global,
     state: &mut Settled<'_, W>,
-    bucket: &Bytes,
+    bucket: &BucketName,
     id: u128,
 ) -> Result<Reply, PlanFault>
-    requires { is_bucket bucket.now ≡ true }
     ensures stays { Stays state.old state.new }
     ensures plans { (key text : List ℕ) (label : Label)
         → Plans (by_account (1 + pages
         (named_by (present (W.history state.old.store.now)) bucket.now (id_digits id))
         + named_by (present (W.history state.old.store.now)) bucket.now (id_digits id)))
         (W.history state.old.store.now) (W.history state.new.store.now) state.old.settings.now
-        (GivenOf (IsOpenUpload bucket.now key text id)) (AbortUpload bucket.now key text) label
+        (GivenOf (IsOpenUpload bucket.now key text id)) (ops.AbortUpload bucket.now key text) label
         known.Settled result }
     ensures beside { (key text : List ℕ) (label : Label)
         → LeavesBeside (clears bucket.now text) label (W.history state.old.store.now)
@@ -80,21 +76,20 @@ fn abort_open<W: Swift>(
     ensures unrefused { Unrefused result }
     ensures kind { AnswersUpload result }
 {
-    let folder = segments_container(alloc, bucket.as_slice())?;
+    let alloc = state.alloc;
+    let folder = segments_container(alloc, bucket.bytes())?;
     let prefix = segments_prefix(alloc, id)?;
-    plan_abort_and_purge_upload(alloc, state, bucket, id, &folder, &prefix)
+    plan_abort_and_purge_upload(state, bucket, id, &folder, &prefix)
 }
 
 /// The calls of AbortUpload from the one that commits on.
 fn plan_abort_and_purge_upload<W: Swift>(
-    alloc: Global,
     state: &mut Settled<'_, W>,
-    bucket: &Bytes,
+    bucket: &BucketName,
     id: u128,
     folder: &Bytes,
     prefix: &Bytes,
 ) -> Result<Reply, PlanFault>
-    requires name { is_bucket bucket.now ≡ true }
     requires folder { folder.now ≡ segments_name bucket.now }
     requires prefix { prefix.now ≡ segments_prefix (id_digits id) }
     ensures stays { Stays state.old state.new }
@@ -103,7 +98,7 @@ fn plan_abort_and_purge_upload<W: Swift>(
         (named_by (present (W.history state.old.store.now)) bucket.now (id_digits id))
         + named_by (present (W.history state.old.store.now)) bucket.now (id_digits id)))
         (W.history state.old.store.now) (W.history state.new.store.now) state.old.settings.now
-        (GivenOf (IsOpenUpload bucket.now key text id)) (AbortUpload bucket.now key text) label
+        (GivenOf (IsOpenUpload bucket.now key text id)) (ops.AbortUpload bucket.now key text) label
         known.Settled result }
     ensures beside { (key text : List ℕ) (label : Label)
         → LeavesBeside (clears bucket.now text) label (W.history state.old.store.now)
@@ -111,8 +106,9 @@ fn plan_abort_and_purge_upload<W: Swift>(
     ensures unrefused { Unrefused result }
     ensures kind { AnswersUpload result }
 {
-    drop_record(alloc, state, bucket, id)?;
-    end_abort_upload_plan(purge(alloc, state, bucket, folder, prefix))
+    bucket.fits();
+    drop_record(state, bucket, id)?;
+    end_abort_upload_plan(purge(state, folder, prefix))
 }
 
 /// The end of AbortUpload behind the call that commits.

@@ -1,31 +1,37 @@
 //! The plan of CompleteUpload.
-ghost use Rattle.std.specs.Prelude.{◌≡◌, ◌<◌, ◌+◌, ◌^◌, ℕ, true, List, length, Some, IfOk};
-ghost use Rattle.gate_base.specs.Told.{moment_limit};
+ghost use Rattle.std.specs.Prelude.{◌≡◌, ◌<◌, ◌+◌, ◌^◌, ℕ, false, true, List, length, Some, IfOk};
 ghost use Rattle.s3_names.specs.Id.{id_digits};
-ghost use Rattle.s3_machine.specs.Step.{IsPlace, IsProperList};
 ghost use Rattle.s3_machine.specs.Uploads.{rises};
 ghost use Rattle.s3_machine.specs.declared.items.PartItem.{PartItem};
+ghost use Rattle.s3_machine.specs.declared.only_if.OnlyIf.TheVariants.{Always};
 ghost use Rattle.s3_machine.specs.declared.operation.Label.{Label};
 ghost use Rattle.s3_machine.specs.declared.operation.Listed.{Listed};
-ghost use Rattle.s3_machine.specs.declared.operation.Op.TheVariants.{CompleteUpload};
+ghost use Rattle.s3_machine.specs.declared.operation.Op.TheVariants.{OnUploads};
+ghost use Rattle.s3_machine.specs.declared.operation.UploadsOp.TheVariants.{CompleteUpload};
+ghost use Rattle.s3_machine.specs.Ops as ops;
+ghost use Rattle.s3_machine.specs.Replies as replies;
 ghost use Rattle.swift_calls.specs.History.{present};
 ghost use Rattle.upload_records.specs.Native.{s3_state, sealed_sub_manifests, sub_manifests};
-ghost use Rattle.account_calls.specs.Answers.{completion_calls, named_by, pages};
+ghost use Rattle.account_calls.specs.Answers.{completion_calls, condition_calls, named_by, pages};
 ghost use Rattle.account_calls.specs.Calls.{always, by_account, Any, Given, GivenOf};
 ghost use Rattle.account_calls.specs.Lent.{Stays};
 ghost use Rattle.account_calls.specs.Refusals.{Stops, Unrefused};
-ghost use Rattle.account_calls.specs.Shows.{alone};
+ghost use Rattle.account_calls.specs.Shows.{in_upload};
 ghost use Rattle.account_calls.specs.Plan.{Plans};
 ghost use Rattle.account_calls.specs.Puts.{EnsuresIfDone};
-ghost use Rattle.plan_uploads.specs.Completing.{Ascend, BreaksOff, HasParts, IsOpenAs, MayComplete, ShownByParts, StandsAs, StandsCompleted, ToldOrStands, answered_by, by_number, completion_of, end_in, known_in, listed_parts};
+ghost use Rattle.plan_uploads.specs.Completing.{Ascend, BreaksOff, HasParts, IsOpenAs, MayComplete, ShownByParts, StandsAs, StandsCompleted, ToldOrStands, answered_by, by_number, completion_of, end_in, has_small_chosen_part, known_in, listed_parts};
 ghost use Rattle.plan_uploads.specs.Replies.{AnswersUpload};
 
 use crate::chosen::{chosen_parts, has_small_chosen_part};
 use crate::completed::{Opened, ToComplete, find_upload_to_complete};
 use crate::seal::seal_and_finish;
-use account_calls::{PlanFault, Settled};
+use account_calls::{PlanFault, Settled, condition_refusal};
 use gate_base::{Bytes, Copying, List, Memory, drop};
-use s3_machine::{Code, Label, Listed, MOST_PARTS, PartItem, Reply, rises, upload_etag};
+use s3_machine::{
+    Code, CompletedObject, Label, MOST_PARTS, PartItem, Reply, UploadCompletion, UploadsReply,
+    rises, upload_etag,
+};
+use s3_names::{BucketName, Key};
 use std::alloc::Global;
 use swift_calls::Swift;
 use upload_calls::list_parts;
@@ -39,45 +45,41 @@ pub(crate) struct Completing {
     pub(crate) unfinished: Option<PlanFault>,
 }
 
-/// CompleteUpload: HEAD of the bucket's container, GET of the upload's record, the names of its segments page by page, then PUT
-/// of the completion into the gateway's own container, which commits, and the calls behind it, which put its sub-manifests, the
+/// CompleteUpload: HEAD of the bucket's container, GET of the upload's record, the names of its segments page by page, HEAD of the
+/// object's file where there is a condition, then PUT of the completion into the gateway's own container, which commits, and the calls behind it, which put its sub-manifests, the
 /// object and the record and delete what was sealed. Over an observable consistent account at most six calls more than there are
-/// pages of the upload's segments, and one for each sub-manifest. A completion that is kept is answered again after the first two. The faults are those of the calls up to
+/// pages of the upload's segments, one for each sub-manifest, and one for a condition. A completion that is kept is answered again after the first two. The faults are those of the calls up to
 /// the one that commits; that the store failed behind it is no failure of the operation. One that was done otherwise stands then, over
 /// every observable store, consistent or not: its object and its record, or else what is sealed. That it may be sealed still is
 /// told with the fault by which the calls broke off.
 pub(crate) fn complete_upload<W: Swift>(
-    alloc: Global,
     state: &mut Settled<'_, W>,
-    bucket: &Bytes,
-    key: &Bytes,
-    text: &Bytes,
-    list: &List<Listed>,
+    done: &UploadCompletion,
     label: &Label,
 ) -> Result<Completing, PlanFault>
-    requires place { IsPlace bucket.now key.now }
-    requires list { IsProperList list.now }
-    requires moment { label.now.moment < moment_limit }
     ensures stays { Stays state.old state.new }
     ensures plans { Plans (by_account (completion_calls
-        (6 + pages (named_by (present (W.history state.old.store.now)) bucket.now text.now)
-        + sub_manifests (length list.now)) (s3_state (present (W.history state.old.store.now)))
-        bucket.now key.now text.now list.now))
+        (6 + condition_calls done.now.only_if + pages
+        (named_by (present (W.history state.old.store.now)) done.now.bucket done.now.id)
+        + sub_manifests (length done.now.list)) (s3_state (present (W.history state.old.store.now)))
+        done.now.bucket done.now.key done.now.id done.now.list))
         (W.history state.old.store.now) (W.history state.new.store.now) state.old.settings.now
-        (Given Any) (CompleteUpload bucket.now key.now text.now list.now) label.now
+        (Given Any) (OnUploads (CompleteUpload done.now)) label.now
         (known_in result) (end_in result) }
     ensures unsure { BreaksOff (W.history state.old.store.now) (W.history state.new.store.now) result }
     ensures stands { EnsuresIfDone (W.history state.new.store.now)
-        (ToldOrStands (known_in result) bucket.now key.now list.now label.now.moment
+        (ToldOrStands (known_in result) done.now.bucket done.now.key done.now.list label.now.moment
         (W.history state.old.store.now) (W.history state.new.store.now)) (end_in result) }
-    ensures stops { Stops alone 0 (W.history state.old.store.now) (W.history state.new.store.now) (end_in result) }
+    ensures stops { Stops in_upload 0 (W.history state.old.store.now)
+        (W.history state.new.store.now) (end_in result) }
     ensures kind { AnswersUpload (end_in result) }
 {
-    match find_upload_to_complete(alloc, state, bucket, key, text, list.as_slice())? {
+    done.bucket.fits();
+    match find_upload_to_complete(state, done)? {
         ToComplete::NoBucket => Ok(end_complete_upload_refused(Code::NoSuchBucket)),
         ToComplete::NoUpload => Ok(end_complete_upload_refused(Code::NoSuchUpload)),
-        ToComplete::Again(etag) => Ok(end_complete_upload_again(bucket, key, etag)?),
-        ToComplete::Open(opened) => complete_open(alloc, state, bucket, key, opened, list, label),
+        ToComplete::Again(etag) => Ok(end_complete_upload_again(&done.bucket, &done.key, etag)?),
+        ToComplete::Open(opened) => complete_open(state, done, opened, label),
     }
 }
 
@@ -92,144 +94,199 @@ fn end_complete_upload_unsealed(reply: Reply) -> Completing
 }
 
 fn end_complete_upload_refused(code: Code) -> Completing
-    ensures { result ≡ answered_by (Reply.Refused code) }
+    ensures { result ≡ answered_by (replies.Refused code) }
 {
     end_complete_upload_unsealed(Reply::Refused(code))
 }
 
-fn end_complete_upload_again(bucket: &Bytes, key: &Bytes, etag: Bytes) -> Result<Completing, Memory>
+fn end_complete_upload_again(
+    bucket: &BucketName,
+    key: &Key,
+    etag: Bytes,
+) -> Result<Completing, Memory>
     ensures { IfOk result
-        (λ completing. completing ≡ answered_by (Reply.Completed bucket.now key.now etag)) }
+        (λ completing. completing ≡ answered_by (replies.Completed bucket.now key.now etag)) }
 {
-    let bucket = bucket.copy()?;
-    let key = key.copy()?;
-    Ok(end_complete_upload_unsealed(Reply::Completed { bucket, key, etag }))
+    let bucket = bucket.copy_text()?;
+    let key = key.copy_text()?;
+    Ok(end_complete_upload_unsealed(completed_of(bucket, key, etag)))
 }
 
 /// The rest of CompleteUpload, of an upload that is open.
 fn complete_open<W: Swift>(
-    alloc: Global,
     state: &mut Settled<'_, W>,
-    bucket: &Bytes,
-    key: &Bytes,
+    done: &UploadCompletion,
     opened: Opened,
-    list: &List<Listed>,
     label: &Label,
 ) -> Result<Completing, PlanFault>
-    requires place { IsPlace bucket.now key.now }
-    requires list { IsProperList list.now }
-    requires moment { label.now.moment < moment_limit }
     ensures stays { Stays state.old state.new }
     ensures plans { (text : List ℕ)
-        → Plans (by_account (4 + pages
-        (named_by (present (W.history state.old.store.now)) bucket.now (id_digits opened.id))
-        + sub_manifests (length list.now)))
+        → Plans (by_account (4 + condition_calls done.now.only_if + pages
+        (named_by (present (W.history state.old.store.now)) done.now.bucket (id_digits opened.id))
+        + sub_manifests (length done.now.list)))
         (W.history state.old.store.now) (W.history state.new.store.now) state.old.settings.now
-        (GivenOf (IsOpenAs bucket.now key.now text opened))
-        (CompleteUpload bucket.now key.now text list.now) label.now (known_in result)
+        (GivenOf (IsOpenAs done.now.bucket done.now.key text opened))
+        (ops.CompleteUpload done.now.bucket done.now.key text done.now.list done.now.only_if)
+        label.now (known_in result)
         (end_in result) }
     ensures unsure { BreaksOff (W.history state.old.store.now) (W.history state.new.store.now) result }
     ensures stands { EnsuresIfDone (W.history state.new.store.now)
-        (StandsCompleted (known_in result) bucket.now key.now list.now label.now.moment)
+        (StandsCompleted (known_in result) done.now.bucket done.now.key done.now.list
+        label.now.moment)
         (end_in result) }
-    ensures stops { Stops alone 2 (W.history state.old.store.now) (W.history state.new.store.now) (end_in result) }
+    ensures stops { Stops in_upload 2 (W.history state.old.store.now)
+        (W.history state.new.store.now) (end_in result) }
     ensures kind { AnswersUpload (end_in result) }
 {
-    if !rises(list.as_slice()) {
+    done.bucket.fits();
+    if !rises(done.list.get().as_slice()) {
         return Ok(end_complete_upload_refused(Code::InvalidPartOrder));
     }
-    let (parts, _) = list_parts(alloc, state, bucket, opened.id, 0, MOST_PARTS as u32)?;
-    complete_by(
-        alloc,
-        state,
-        bucket,
-        key,
-        opened,
-        parts.as_slice(),
-        list,
-        label,
-    )
+    let (parts, _) = list_parts(state, &done.bucket, opened.id, 0, MOST_PARTS as u32)?;
+    complete_by(state, done, opened, parts.as_slice(), label)
 }
 
 /// The rest of CompleteUpload, of an upload whose parts are these.
 fn complete_by<W: Swift>(
-    alloc: Global,
     state: &mut Settled<'_, W>,
-    bucket: &Bytes,
-    key: &Bytes,
+    done: &UploadCompletion,
     opened: Opened,
     parts: &[PartItem],
-    list: &List<Listed>,
     label: &Label,
 ) -> Result<Completing, PlanFault>
-    requires place { IsPlace bucket.now key.now }
-    requires list { IsProperList list.now }
-    requires ascends { rises list.now ≡ true }
-    requires moment { label.now.moment < moment_limit }
+    requires ascends { rises done.now.list ≡ true }
     ensures stays { Stays state.old state.new }
     ensures plans { (text : List ℕ)
-        → Plans (always (4 + sub_manifests (length list.now))) (W.history state.old.store.now)
+        → Plans (always (4 + condition_calls done.now.only_if + sub_manifests
+        (length done.now.list))) (W.history state.old.store.now)
         (W.history state.new.store.now)
-        state.old.settings.now (GivenOf (HasParts bucket.now key.now text opened parts.now))
-        (CompleteUpload bucket.now key.now text list.now) label.now (known_in result)
+        state.old.settings.now (GivenOf (HasParts done.now.bucket done.now.key text opened
+        parts.now))
+        (ops.CompleteUpload done.now.bucket done.now.key text done.now.list done.now.only_if)
+        label.now (known_in result)
         (end_in result) }
     ensures unsure { BreaksOff (W.history state.old.store.now) (W.history state.new.store.now) result }
     ensures stands { EnsuresIfDone (W.history state.new.store.now)
-        (StandsCompleted (known_in result) bucket.now key.now list.now label.now.moment)
+        (StandsCompleted (known_in result) done.now.bucket done.now.key done.now.list
+        label.now.moment)
         (end_in result) }
     ensures shown { ShownByParts (end_in result) }
     ensures kind { AnswersUpload (end_in result) }
 {
-    let Some(chosen) = chosen_parts(alloc, parts, list.as_slice())? else {
+    let alloc = state.alloc;
+    done.bucket.fits();
+    let Some(chosen) = chosen_parts(alloc, parts, done.list.get().as_slice())? else {
         return Ok(end_complete_upload_refused(Code::InvalidPart));
     };
-    complete_chosen(alloc, state, bucket, key, opened, chosen, list, label)
+    complete_chosen(state, done, opened, chosen, label)
 }
 
 /// The rest of CompleteUpload, of an upload that has the parts of the list.
 fn complete_chosen<W: Swift>(
-    alloc: Global,
     state: &mut Settled<'_, W>,
-    bucket: &Bytes,
-    key: &Bytes,
+    done: &UploadCompletion,
     opened: Opened,
     chosen: List<SealedPart>,
-    list: &List<Listed>,
     label: &Label,
 ) -> Result<Completing, PlanFault>
-    requires place { IsPlace bucket.now key.now }
-    requires list { IsProperList list.now }
-    requires ascends { rises list.now ≡ true }
-    requires many { length chosen ≡ length list.now }
-    requires moment { label.now.moment < moment_limit }
+    requires ascends { rises done.now.list ≡ true }
+    requires many { length chosen ≡ length done.now.list }
     ensures stays { Stays state.old state.new }
     ensures plans { (text : List ℕ) (parts : List PartItem)
-        → (Ascend parts → listed_parts (by_number parts) list.now ≡ Some chosen)
-        → Plans (always (4 + sub_manifests (length list.now))) (W.history state.old.store.now)
+        → (Ascend parts → listed_parts (by_number parts) done.now.list ≡ Some chosen)
+        → Plans (always (4 + condition_calls done.now.only_if + sub_manifests
+        (length done.now.list))) (W.history state.old.store.now)
         (W.history state.new.store.now)
-        state.old.settings.now (GivenOf (HasParts bucket.now key.now text opened parts))
-        (CompleteUpload bucket.now key.now text list.now) label.now (known_in result)
+        state.old.settings.now (GivenOf (HasParts done.now.bucket done.now.key text opened parts))
+        (ops.CompleteUpload done.now.bucket done.now.key text done.now.list done.now.only_if)
+        label.now (known_in result)
         (end_in result) }
     ensures unsure { BreaksOff (W.history state.old.store.now) (W.history state.new.store.now) result }
     ensures stands { EnsuresIfDone (W.history state.new.store.now)
-        (StandsCompleted (known_in result) bucket.now key.now list.now label.now.moment)
+        (StandsCompleted (known_in result) done.now.bucket done.now.key done.now.list
+        label.now.moment)
         (end_in result) }
     ensures shown { ShownByParts (end_in result) }
     ensures kind { AnswersUpload (end_in result) }
 {
+    done.bucket.fits();
     if has_small_chosen_part(state.settings().least_part, chosen.as_slice()) {
         return Ok(end_complete_upload_refused(Code::EntityTooSmall));
     }
-    let sealed = completion_of_chosen_parts(
-        alloc,
-        bucket,
-        key,
-        opened,
-        chosen,
-        list,
-        label.moment,
-    )?;
-    let completing = complete_sealed(alloc, state, &sealed);
+    complete_if(state, done, opened, chosen, label)
+}
+
+/// The rest of CompleteUpload, of an upload whose parts are large enough: what its condition asks is the last that may refuse it.
+fn complete_if<W: Swift>(
+    state: &mut Settled<'_, W>,
+    done: &UploadCompletion,
+    opened: Opened,
+    chosen: List<SealedPart>,
+    label: &Label,
+) -> Result<Completing, PlanFault>
+    requires ascends { rises done.now.list ≡ true }
+    requires many { length chosen ≡ length done.now.list }
+    requires large { has_small_chosen_part state.old.settings.now.least_part chosen ≡ false }
+    ensures stays { Stays state.old state.new }
+    ensures plans { (text : List ℕ) (parts : List PartItem)
+        → (Ascend parts → listed_parts (by_number parts) done.now.list ≡ Some chosen)
+        → Plans (always (4 + condition_calls done.now.only_if + sub_manifests
+        (length done.now.list)))
+        (W.history state.old.store.now) (W.history state.new.store.now)
+        state.old.settings.now (GivenOf (HasParts done.now.bucket done.now.key text opened parts))
+        (ops.CompleteUpload done.now.bucket done.now.key text done.now.list done.now.only_if)
+        label.now (known_in result)
+        (end_in result) }
+    ensures unsure { BreaksOff (W.history state.old.store.now) (W.history state.new.store.now) result }
+    ensures stands { EnsuresIfDone (W.history state.new.store.now)
+        (StandsCompleted (known_in result) done.now.bucket done.now.key done.now.list
+        label.now.moment)
+        (end_in result) }
+    ensures shown { ShownByParts (end_in result) }
+    ensures kind { AnswersUpload (end_in result) }
+{
+    done.bucket.fits();
+    let refused = condition_refusal(state, &done.bucket, &done.key, &done.only_if)?;
+    let Some(code) = refused else {
+        return complete_met(state, done, opened, chosen, label);
+    };
+    Ok(end_complete_upload_refused(code))
+}
+
+/// The rest of CompleteUpload that nothing refuses any more: it is the completion without a condition.
+fn complete_met<W: Swift>(
+    state: &mut Settled<'_, W>,
+    done: &UploadCompletion,
+    opened: Opened,
+    chosen: List<SealedPart>,
+    label: &Label,
+) -> Result<Completing, PlanFault>
+    requires ascends { rises done.now.list ≡ true }
+    requires many { length chosen ≡ length done.now.list }
+    requires large { has_small_chosen_part state.old.settings.now.least_part chosen ≡ false }
+    ensures stays { Stays state.old state.new }
+    ensures plans { (text : List ℕ) (parts : List PartItem)
+        → (Ascend parts → listed_parts (by_number parts) done.now.list ≡ Some chosen)
+        → Plans (always (4 + sub_manifests (length done.now.list))) (W.history state.old.store.now)
+        (W.history state.new.store.now)
+        state.old.settings.now (GivenOf (HasParts done.now.bucket done.now.key text opened parts))
+        (ops.CompleteUpload done.now.bucket done.now.key text done.now.list Always) label.now
+        (known_in result)
+        (end_in result) }
+    ensures unsure { BreaksOff (W.history state.old.store.now) (W.history state.new.store.now) result }
+    ensures stands { EnsuresIfDone (W.history state.new.store.now)
+        (StandsCompleted (known_in result) done.now.bucket done.now.key done.now.list
+        label.now.moment)
+        (end_in result) }
+    ensures shown { ShownByParts (end_in result) }
+    ensures kind { AnswersUpload (end_in result) }
+{
+    let alloc = state.alloc;
+    done.bucket.fits();
+    done.key.fits();
+    done.list.get();
+    let sealed = completion_of_chosen_parts(alloc, done, opened, chosen, label)?;
+    let completing = complete_sealed(state, &sealed);
     drop(sealed);
     completing
 }
@@ -237,20 +294,19 @@ fn complete_chosen<W: Swift>(
 /// The completion of an upload by parts that are there.
 fn completion_of_chosen_parts(
     alloc: Global,
-    bucket: &Bytes,
-    key: &Bytes,
+    done: &UploadCompletion,
     opened: Opened,
     chosen: List<SealedPart>,
-    list: &List<Listed>,
-    moment: u64,
+    label: &Label,
 ) -> Result<Sealed, Memory>
     ensures sealed { IfOk result
-        (λ sealed. sealed ≡ completion_of bucket.now key.now opened chosen list.now moment) }
+        (λ sealed. sealed ≡ completion_of done.now.bucket done.now.key opened chosen done.now.list
+        label.now.moment) }
     ensures fits { IfOk result (λ sealed. sealed.id < 2 ^ 128) }
 {
-    let etag = upload_etag(alloc, list.as_slice())?;
-    let bucket = bucket.copy()?;
-    let key = key.copy()?;
+    let etag = upload_etag(alloc, done.list.get().as_slice())?;
+    let bucket = done.bucket.copy_text()?;
+    let key = done.key.copy_text()?;
     Ok(Sealed {
         bucket,
         key,
@@ -260,13 +316,12 @@ fn completion_of_chosen_parts(
         list: chosen,
         etag,
         started: opened.started,
-        moment,
+        moment: label.moment,
     })
 }
 
 /// The rest of CompleteUpload, by a completion that may be sealed. One that has no text comes of no consistent account.
 fn complete_sealed<W: Swift>(
-    alloc: Global,
     state: &mut Settled<'_, W>,
     sealed: &Sealed,
 ) -> Result<Completing, PlanFault>
@@ -276,7 +331,8 @@ fn complete_sealed<W: Swift>(
         (W.history state.new.store.now)
         state.old.settings.now
         (GivenOf (MayComplete state.old.settings.now text list label sealed.now))
-        (CompleteUpload sealed.now.bucket sealed.now.key text list) label (known_in result)
+        (ops.CompleteUpload sealed.now.bucket sealed.now.key text list Always) label
+        (known_in result)
         (end_in result) }
     ensures unsure { BreaksOff (W.history state.old.store.now) (W.history state.new.store.now) result }
     ensures stands { EnsuresIfDone (W.history state.new.store.now)
@@ -288,15 +344,21 @@ fn complete_sealed<W: Swift>(
         return Err(PlanFault::Inconsistent);
     }
     let reply = completed_reply(sealed)?;
-    Ok(seal_and_finish(alloc, state, sealed, reply))
+    Ok(seal_and_finish(state, sealed, reply))
 }
 
 fn completed_reply(sealed: &Sealed) -> Result<Reply, Memory>
     ensures { IfOk result
-        (λ reply. reply ≡ Reply.Completed sealed.now.bucket sealed.now.key sealed.now.etag) }
+        (λ reply. reply ≡ replies.Completed sealed.now.bucket sealed.now.key sealed.now.etag) }
 {
     let bucket = sealed.bucket.copy()?;
     let key = sealed.key.copy()?;
     let etag = sealed.etag.copy()?;
-    Ok(Reply::Completed { bucket, key, etag })
+    Ok(completed_of(bucket, key, etag))
+}
+
+fn completed_of(bucket: Bytes, key: Bytes, etag: Bytes) -> Reply
+    ensures { result ≡ replies.Completed bucket key etag }
+{
+    Reply::OfUploads(UploadsReply::Completed(CompletedObject { bucket, key, etag }))
 }

@@ -1,6 +1,5 @@
 //! The upload that a completion is of.
-ghost use Rattle.std.specs.Prelude.{◌≡◌, false, true, IfOk};
-ghost use Rattle.s3_names.specs.Bucket.{is_bucket};
+ghost use Rattle.std.specs.Prelude.{◌≡◌, false, IfOk};
 ghost use Rattle.s3_names.specs.Id.{id_digits};
 ghost use Rattle.upload_records.specs.Native.{IsSettled};
 ghost use Rattle.account_calls.specs.Calls.{always, Asks, GivenOf};
@@ -11,9 +10,8 @@ ghost use Rattle.plan_uploads.specs.Completing.{StopsAtBucket, TellsToComplete, 
 
 use account_calls::{PlanFault, Settled, head_bucket};
 use gate_base::Bytes;
-use s3_machine::{Listed, same_list};
-use s3_names::Meta;
-use std::alloc::Global;
+use s3_machine::{Listed, UploadCompletion, same_list};
+use s3_names::{Key, Meta};
 use swift_calls::Swift;
 use upload_calls::{get_record, read_upload_id_to_find};
 use upload_texts::Record;
@@ -45,49 +43,44 @@ pub(crate) enum ToComplete {
 /// GET of the upload's record, where the text is that of an id. At most two calls, and the S3 state stays. The faults are those
 /// of the calls.
 pub(crate) fn find_upload_to_complete<W: Swift>(
-    alloc: Global,
     state: &mut Settled<'_, W>,
-    bucket: &Bytes,
-    key: &Bytes,
-    text: &Bytes,
-    list: &[Listed],
+    done: &UploadCompletion,
 ) -> Result<ToComplete, PlanFault>
-    requires { is_bucket bucket.now ≡ true }
     ensures stays { Stays state.old state.new }
     ensures asks { Asks (always 2) (W.history state.old.store.now) (W.history state.new.store.now)
-        IsSettled (TellsOf (TellsToComplete bucket.now key.now text.now list.now)) result }
+        IsSettled (TellsOf (TellsToComplete done.now.bucket done.now.key done.now.id done.now.list))
+        result }
     ensures missing { StopsAtBucket (W.history state.old.store.now) (W.history state.new.store.now) result }
 {
-    let Some(_) = head_bucket(state, bucket)? else {
+    done.bucket.fits();
+    let Some(_) = head_bucket(state, &done.bucket)? else {
         return Ok(ToComplete::NoBucket);
     };
-    let Some(id) = read_upload_id_to_find(text.as_slice()) else {
+    let Some(id) = read_upload_id_to_find(done.id.as_slice()) else {
         return Ok(ToComplete::NoUpload);
     };
-    find_recorded(alloc, state, bucket, key, id, list)
+    find_recorded(state, done, id)
 }
 
 /// The same by an id, in a bucket that is there.
 fn find_recorded<W: Swift>(
-    alloc: Global,
     state: &mut Settled<'_, W>,
-    bucket: &Bytes,
-    key: &Bytes,
+    done: &UploadCompletion,
     id: u128,
-    list: &[Listed],
 ) -> Result<ToComplete, PlanFault>
-    requires { is_bucket bucket.now ≡ true }
     ensures stays { Stays state.old state.new }
     ensures asks { Asks (always 1) (W.history state.old.store.now) (W.history state.new.store.now)
-        (GivenOf (InBucket bucket.now)) (TellsOf (TellsToComplete bucket.now key.now (id_digits id) list.now)) result }
+        (GivenOf (InBucket done.now.bucket))
+        (TellsOf (TellsToComplete done.now.bucket done.now.key (id_digits id) done.now.list))
+        result }
     ensures there { IfOk result (λ found. lacks_bucket found ≡ false) }
 {
-    let record = get_record(alloc, state, bucket, id)?;
-    Ok(to_complete(record, key, id, list))
+    let record = get_record(state, &done.bucket, id)?;
+    Ok(to_complete(record, &done.key, id, done.list.get().as_slice()))
 }
 
 /// What a record says of a completion of this key by this list.
-fn to_complete(found: Option<Record>, key: &Bytes, id: u128, list: &[Listed]) -> ToComplete
+fn to_complete(found: Option<Record>, key: &Key, id: u128, list: &[Listed]) -> ToComplete
     ensures { result ≡ to_complete_by found key.now id list.now }
 {
     match found {
@@ -113,7 +106,7 @@ fn to_complete(found: Option<Record>, key: &Bytes, id: u128, list: &[Listed]) ->
 
 fn open_upload_to_complete(
     under: Bytes,
-    key: &Bytes,
+    key: &Key,
     id: u128,
     content_type: Bytes,
     meta: Meta,
@@ -121,7 +114,7 @@ fn open_upload_to_complete(
 ) -> ToComplete
     ensures { result ≡ opened_by under key.now id content_type meta started }
 {
-    if under.as_slice() != key.as_slice() {
+    if under.as_slice() != key.bytes() {
         return ToComplete::NoUpload;
     }
     ToComplete::Open(Opened {
@@ -134,14 +127,14 @@ fn open_upload_to_complete(
 
 fn done_upload_to_complete(
     under: Bytes,
-    key: &Bytes,
+    key: &Key,
     kept: &[Listed],
     list: &[Listed],
     etag: Bytes,
 ) -> ToComplete
     ensures { result ≡ done_by under key.now kept.now list.now etag }
 {
-    if under.as_slice() != key.as_slice() || !same_list(kept, list) {
+    if under.as_slice() != key.bytes() || !same_list(kept, list) {
         return ToComplete::NoUpload;
     }
     ToComplete::Again(etag)

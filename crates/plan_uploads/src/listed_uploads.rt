@@ -1,12 +1,10 @@
 //! The listing of the open uploads of a bucket.
-ghost use Rattle.std.specs.Prelude.{◌≡◌, ◌<◌, ◌+◌, ◌&&◌, true, length, map, IfOk, OnOk};
+ghost use Rattle.std.specs.Prelude.{◌≡◌, ◌<◌, ◌+◌, ◌&&◌, length, map, IfOk, OnOk};
 ghost use Rattle.std.specs.List.{All};
 ghost use Rattle.std.specs.FinMap.{entries};
-ghost use Rattle.s3_names.specs.Bucket.{is_bucket};
 ghost use Rattle.s3_names.specs.Id.{id_digits};
 ghost use Rattle.s3_machine.specs.Items.{begins};
 ghost use Rattle.s3_machine.specs.Shown.{IsShownUpload};
-ghost use Rattle.s3_machine.specs.Step.{IsProperUploads};
 ghost use Rattle.s3_machine.specs.Uploads.{cut, is_upload_after, upload_place};
 ghost use Rattle.swift_calls.specs.History.{present};
 ghost use Rattle.account_calls.specs.Answers.{pages, records_of};
@@ -19,22 +17,14 @@ ghost use Rattle.plan_uploads.specs.Listing.{added, AddsRow, AllShown, HasRecord
 use account_calls::{PlanFault, Settled};
 use gate_base::{Bytes, Copying, List, MOMENT_LIMIT, Memory};
 use name_table::Table;
-use s3_machine::{UploadItem, begins};
-use s3_names::id_digits;
+use s3_machine::{UploadItem, UploadsAsked, begins};
+use s3_names::{BucketName, id_digits};
 use std::alloc::Global;
 use swift_calls::Swift;
 use upload_calls::{get_record, record_ids};
 use upload_texts::Record;
 
 // ---- the uploads among them
-
-/// What is asked of the listing: the prefix of the keys, and the markers.
-#[derive(Drop)]
-struct AskedUploads {
-    prefix: Bytes,
-    key_marker: Bytes,
-    id_marker: Bytes,
-}
 
 /// Whether an upload of this key and id comes after the markers.
 fn is_upload_after_markers(key_marker: &[u8], id_marker: &[u8], key: &[u8], id: &[u8]) -> bool
@@ -54,19 +44,18 @@ fn listed_upload_place(alloc: Global, key: &[u8], id: &[u8]) -> Result<Bytes, Me
     Ok(place)
 }
 
-impl AskedUploads {
-    fn is_listed(&self, key: &[u8], id: &[u8]) -> bool
-        ensures { result ≡ (begins self.now.prefix key.now
-            && is_upload_after self.now.key_marker self.now.id_marker key.now id.now) }
-    {
-        begins(self.prefix.as_slice(), key)
-            && is_upload_after_markers(
-                self.key_marker.as_slice(),
-                self.id_marker.as_slice(),
-                key,
-                id,
-            )
-    }
+/// Whether a listing that asks for this has an upload of this key and id.
+fn is_listed(asked: &UploadsAsked, key: &[u8], id: &[u8]) -> bool
+    ensures { result ≡ (begins asked.now.prefix key.now
+        && is_upload_after asked.now.key_marker asked.now.id_marker key.now id.now) }
+{
+    begins(asked.prefix.as_slice(), key)
+        && is_upload_after_markers(
+            asked.key_marker.as_slice(),
+            asked.id_marker.as_slice(),
+            key,
+            id,
+        )
 }
 
 /// Adds a row at its place, unless one is there. Where memory runs out, the rows are as before.
@@ -86,7 +75,7 @@ fn add_open_upload_row(
 /// Adds an open upload, where it is listed.
 fn add_open(
     alloc: Global,
-    asked: &AskedUploads,
+    asked: &UploadsAsked,
     rows: &mut Table<UploadItem>,
     id: u128,
     key: Bytes,
@@ -96,7 +85,7 @@ fn add_open(
     ensures dated { AllShown rows.old → OnOk result (AllShown rows.new) }
 {
     let digits = id_digits(id);
-    if !asked.is_listed(key.as_slice(), &digits) {
+    if !is_listed(asked, key.as_slice(), &digits) {
         return Ok(());
     }
     if started >= MOMENT_LIMIT {
@@ -110,20 +99,19 @@ fn add_open(
 /// Adds the upload of an id, where it is open and listed. Inconsistent where the id was listed and has no record: no consistent
 /// account gives both.
 fn add_upload<W: Swift>(
-    alloc: Global,
     state: &mut Settled<'_, W>,
-    bucket: &Bytes,
-    asked: &AskedUploads,
+    bucket: &BucketName,
+    asked: &UploadsAsked,
     rows: &mut Table<UploadItem>,
     id: u128,
 ) -> Result<(), PlanFault>
-    requires { is_bucket bucket.now ≡ true }
     ensures stays { Stays state.old state.new }
     ensures dated { AllShown rows.old → OnOk result (AllShown rows.new) }
     ensures asks { Asks (always 1) (W.history state.old.store.now) (W.history state.new.store.now)
         (GivenOf (HasRecord bucket.now id)) (TellsOf (TellsRow asked.now bucket.now id rows.old rows.new)) result }
 {
-    match get_record(alloc, state, bucket, id)? {
+    let alloc = state.alloc;
+    match get_record(state, bucket, id)? {
         Some(Record::Open { key, started, .. }) => add_open(alloc, asked, rows, id, key, started),
         Some(Record::Done { .. }) => Ok(()),
         None => Err(PlanFault::Inconsistent),
@@ -132,21 +120,20 @@ fn add_upload<W: Swift>(
 
 /// The uploads of these ids, where they are open and listed.
 fn open_uploads_of_ids<W: Swift>(
-    alloc: Global,
     state: &mut Settled<'_, W>,
-    bucket: &Bytes,
-    asked: &AskedUploads,
+    bucket: &BucketName,
+    asked: &UploadsAsked,
     ids: &[u128],
 ) -> Result<Table<UploadItem>, PlanFault>
-    requires { is_bucket bucket.now ≡ true }
     ensures stays { Stays state.old state.new }
     ensures dated { IfOk result AllShown }
     ensures asks { Asks (always (length ids.now)) (W.history state.old.store.now) (W.history state.new.store.now)
         (GivenOf (HasRecords bucket.now ids.now)) (TellsOf (TellsRows asked.now bucket.now ids.now)) result }
 {
+    let alloc = state.alloc;
     let mut rows = Table::new(alloc);
     for id in ids {
-        add_upload(alloc, state, bucket, asked, &mut rows, *id)?;
+        add_upload(state, bucket, asked, &mut rows, *id)?;
     }
     Ok(rows)
 }
@@ -181,12 +168,10 @@ fn first_listed_uploads(items: List<UploadItem>, max: u32) -> (List<UploadItem>,
 
 /// All open uploads of a bucket that are listed, by their places.
 fn open_uploads_of_bucket<W: Swift>(
-    alloc: Global,
     state: &mut Settled<'_, W>,
-    bucket: &Bytes,
-    asked: &AskedUploads,
+    bucket: &BucketName,
+    asked: &UploadsAsked,
 ) -> Result<Table<UploadItem>, PlanFault>
-    requires { is_bucket bucket.now ≡ true }
     ensures stays { Stays state.old state.new }
     ensures dated { IfOk result AllShown }
     ensures asks { Asks (by_account (pages (records_of (present (W.history state.old.store.now)) bucket.now)
@@ -194,8 +179,9 @@ fn open_uploads_of_bucket<W: Swift>(
         (W.history state.old.store.now) (W.history state.new.store.now)
         (GivenOf (InBucket bucket.now)) (TellsOf (TellsListed asked.now bucket.now)) result }
 {
-    let ids = record_ids(alloc, state, bucket)?;
-    open_uploads_of_ids(alloc, state, bucket, asked, ids.as_slice())
+    bucket.fits();
+    let ids = record_ids(state, bucket)?;
+    open_uploads_of_ids(state, bucket, asked, ids.as_slice())
 }
 
 /// The first open uploads of a bucket after two markers, whose keys begin with a prefix, at most so many, by key and then by id,
@@ -204,55 +190,10 @@ fn open_uploads_of_bucket<W: Swift>(
 /// and the S3 state stays. Failed comes only where the store's count of faults rose; Memory where memory ran out; Inconsistent
 /// never over an observable consistent account on which the bucket is there.
 pub(crate) fn list_uploads<W: Swift>(
-    alloc: Global,
     state: &mut Settled<'_, W>,
-    bucket: &Bytes,
-    prefix: &Bytes,
-    key_marker: &Bytes,
-    id_marker: &Bytes,
-    max: u32,
+    bucket: &BucketName,
+    asked: &UploadsAsked,
 ) -> Result<(List<UploadItem>, bool), PlanFault>
-    requires name { is_bucket bucket.now ≡ true }
-    requires proper { IsProperUploads prefix.now key_marker.now id_marker.now max }
-    ensures stays { Stays state.old state.new }
-    ensures dated { IfOk result (λ told. All IsShownUpload told.0) }
-    ensures asks { Asks (by_account (pages
-        (records_of (present (W.history state.old.store.now)) bucket.now) + records_of
-        (present (W.history state.old.store.now)) bucket.now)) (W.history state.old.store.now)
-        (W.history state.new.store.now) (GivenOf (InBucket bucket.now))
-        (Tells (TellsUploads bucket.now prefix.now key_marker.now id_marker.now max)) result }
-{
-    if max == 0 {
-        return Ok((List::new(alloc), false));
-    }
-    let asked = asked_open_uploads(prefix, key_marker, id_marker)?;
-    list_asked_uploads(alloc, state, bucket, &asked, max)
-}
-
-fn asked_open_uploads(
-    prefix: &Bytes,
-    key_marker: &Bytes,
-    id_marker: &Bytes,
-) -> Result<AskedUploads, Memory>
-    ensures { IfOk result (λ asked. asked ≡ record
-        { prefix = prefix.now; key_marker = key_marker.now; id_marker = id_marker.now }) }
-{
-    Ok(AskedUploads {
-        prefix: prefix.copy()?,
-        key_marker: key_marker.copy()?,
-        id_marker: id_marker.copy()?,
-    })
-}
-
-/// The same by what is asked, of more than none.
-fn list_asked_uploads<W: Swift>(
-    alloc: Global,
-    state: &mut Settled<'_, W>,
-    bucket: &Bytes,
-    asked: &AskedUploads,
-    max: u32,
-) -> Result<(List<UploadItem>, bool), PlanFault>
-    requires { is_bucket bucket.now ≡ true }
     ensures stays { Stays state.old state.new }
     ensures dated { IfOk result (λ told. All IsShownUpload told.0) }
     ensures asks { Asks (by_account (pages
@@ -260,9 +201,33 @@ fn list_asked_uploads<W: Swift>(
         (present (W.history state.old.store.now)) bucket.now)) (W.history state.old.store.now)
         (W.history state.new.store.now) (GivenOf (InBucket bucket.now))
         (Tells (TellsUploads bucket.now asked.now.prefix asked.now.key_marker
-        asked.now.id_marker max)) result }
+        asked.now.id_marker asked.now.max)) result }
 {
-    let rows = open_uploads_of_bucket(alloc, state, bucket, asked)?;
+    let alloc = state.alloc;
+    if asked.max == 0 {
+        return Ok((List::new(alloc), false));
+    }
+    list_asked_uploads(state, bucket, asked)
+}
+
+/// The same by what is asked, of more than none.
+fn list_asked_uploads<W: Swift>(
+    state: &mut Settled<'_, W>,
+    bucket: &BucketName,
+    asked: &UploadsAsked,
+) -> Result<(List<UploadItem>, bool), PlanFault>
+    ensures stays { Stays state.old state.new }
+    ensures dated { IfOk result (λ told. All IsShownUpload told.0) }
+    ensures asks { Asks (by_account (pages
+        (records_of (present (W.history state.old.store.now)) bucket.now) + records_of
+        (present (W.history state.old.store.now)) bucket.now)) (W.history state.old.store.now)
+        (W.history state.new.store.now) (GivenOf (InBucket bucket.now))
+        (Tells (TellsUploads bucket.now asked.now.prefix asked.now.key_marker
+        asked.now.id_marker asked.now.max)) result }
+{
+    let alloc = state.alloc;
+    bucket.fits();
+    let rows = open_uploads_of_bucket(state, bucket, asked)?;
     let items = open_uploads_in_order(alloc, &rows)?;
-    Ok(first_listed_uploads(items, max))
+    Ok(first_listed_uploads(items, asked.max))
 }

@@ -1,11 +1,10 @@
 //! The plan of UploadPart.
-ghost use Rattle.std.specs.Prelude.{◌≡◌, ◌<◌, ◌≤◌, ℕ, true, List, length};
-ghost use Rattle.gate_base.specs.Told.{moment_limit};
-ghost use Rattle.s3_names.specs.Bucket.{is_bucket};
+ghost use Rattle.std.specs.Prelude.{◌≡◌, ◌<◌, ◌≤◌, ℕ, List, length};
 ghost use Rattle.s3_machine.specs.ETag.{body_etag};
 ghost use Rattle.s3_machine.specs.Limits.{most_body_bytes};
-ghost use Rattle.s3_machine.specs.Uploads.{IsPartNumber};
-ghost use Rattle.s3_machine.specs.declared.operation.Op.TheVariants.{UploadPart};
+ghost use Rattle.s3_machine.specs.declared.operation.Op.TheVariants.{OnUploads};
+ghost use Rattle.s3_machine.specs.declared.operation.UploadsOp.TheVariants.{UploadPart};
+ghost use Rattle.s3_machine.specs.Ops as ops;
 ghost use Rattle.account_calls.specs.Calls.{always, Any, Given, GivenOf};
 ghost use Rattle.account_calls.specs.Lent.{Stays};
 ghost use Rattle.account_calls.specs.declared.state.Known.TheVariants as known;
@@ -20,110 +19,90 @@ ghost use Rattle.plan_uploads.specs.Replies.{AnswersUpload};
 
 use account_calls::{PlanFault, Settled, stored_end};
 use gate_base::Bytes;
-use s3_machine::{Body, Code, Label, Reply};
-use std::alloc::Global;
+use s3_machine::{Body, Code, Label, PartPut, Proper, Reply};
 use swift_calls::Swift;
-use upload_calls::{Found, find_upload, put_part};
+use upload_calls::{Found, PartPlace, find_upload, put_part};
 
 /// UploadPart: HEAD of the bucket's container, GET of the upload's record, then PUT of the part's file, which commits. At most
 /// three calls. The reply is made before the PUT, so that no memory is needed after it. The faults are those of the calls. Where the
 /// reply is no refusal the part's file stands, over every observable store, consistent or not.
 pub(crate) fn upload_part<W: Swift>(
-    alloc: Global,
     state: &mut Settled<'_, W>,
-    bucket: &Bytes,
-    key: &Bytes,
-    text: &Bytes,
-    number: u32,
-    body: Body,
+    part: PartPut,
     label: &Label,
 ) -> Result<Reply, PlanFault>
-    requires name { is_bucket bucket.now ≡ true }
-    requires number { IsPartNumber number }
-    requires sized { length body ≤ most_body_bytes }
-    requires moment { label.now.moment < moment_limit }
     ensures stays { Stays state.old state.new }
     ensures plans { Plans (always 3) (W.history state.old.store.now) (W.history state.new.store.now)
-        state.old.settings.now (Given Any) (UploadPart bucket.now key.now text.now number body)
-        label.now known.Settled result }
+        state.old.settings.now (Given Any) (OnUploads (UploadPart part)) label.now known.Settled
+        result }
     ensures stands { EnsuresIfDone (W.history state.new.store.now)
-        (StandsPart bucket.now text.now number body label.now.moment) result }
+        (StandsPart part.bucket part.id part.number part.body label.now.moment) result }
     ensures stops { Stops alone 0 (W.history state.old.store.now) (W.history state.new.store.now) result }
     ensures kind { AnswersUpload result }
 {
-    match find_upload(alloc, state, bucket, key, text)? {
+    part.bucket.fits();
+    match find_upload(state, &part.bucket, &part.key, &part.id)? {
         Found::NoBucket => Ok(Reply::Refused(Code::NoSuchBucket)),
         Found::NoUpload => Ok(Reply::Refused(Code::NoSuchUpload)),
-        Found::Open(id) => part_into(alloc, state, bucket, id, number, body, label),
+        Found::Open(id) => {
+            let place = PartPlace {
+                bucket: part.bucket,
+                id,
+                number: part.number,
+                label: *label,
+            };
+            part_into(state, place, part.body)
+        }
     }
 }
 
 /// The rest of UploadPart, of an upload that is open.
 fn part_into<W: Swift>(
-    alloc: Global,
     state: &mut Settled<'_, W>,
-    bucket: &Bytes,
-    id: u128,
-    number: u32,
-    body: Body,
-    label: &Label,
+    place: PartPlace,
+    body: Proper<Body>,
 ) -> Result<Reply, PlanFault>
-    requires name { is_bucket bucket.now ≡ true }
-    requires number { IsPartNumber number }
-    requires sized { length body ≤ most_body_bytes }
-    requires moment { label.now.moment < moment_limit }
     ensures stays { Stays state.old state.new }
     ensures plans { (key text : List ℕ)
         → Plans (always 1) (W.history state.old.store.now) (W.history state.new.store.now)
-        state.old.settings.now (GivenOf (IsOpenUpload bucket.now key text id))
-        (UploadPart bucket.now key text number body) label.now known.Settled result }
+        state.old.settings.now (GivenOf (IsOpenUpload place.bucket key text place.id))
+        (ops.UploadPart place.bucket key text place.number body) place.label known.Settled result }
     ensures stands { EnsuresIfDone (W.history state.new.store.now)
-        (λ tree. StandsIn tree (put_part_of bucket.now id number body label.now.moment)) result }
+        (λ tree. StandsIn tree (put_part_of place.bucket place.id place.number body
+        place.label.moment)) result }
     ensures unrefused { Unrefused result }
     ensures kind { AnswersUpload result }
 {
+    let body = body.into_value();
     let etag = body.etag();
-    plan_upload_part_bytes(
-        alloc,
-        state,
-        bucket,
-        id,
-        number,
-        body.into_bytes(),
-        &etag,
-        label,
-    )
+    plan_upload_part_bytes(state, &place, body.into_bytes(), &etag)
 }
 
 /// The PUT of UploadPart, of a body that has this ETag.
 fn plan_upload_part_bytes<W: Swift>(
-    alloc: Global,
     state: &mut Settled<'_, W>,
-    bucket: &Bytes,
-    id: u128,
-    number: u32,
+    place: &PartPlace,
     body: Bytes,
     etag: &[u8; 32],
-    label: &Label,
 ) -> Result<Reply, PlanFault>
-    requires name { is_bucket bucket.now ≡ true }
-    requires number { IsPartNumber number }
     requires sized { length body ≤ most_body_bytes }
-    requires moment { label.now.moment < moment_limit }
     requires etag { etag.now ≡ body_etag body }
     ensures stays { Stays state.old state.new }
     ensures plans { (key text : List ℕ)
         → Plans (always 1) (W.history state.old.store.now) (W.history state.new.store.now)
-        state.old.settings.now (GivenOf (IsOpenUpload bucket.now key text id))
-        (UploadPart bucket.now key text number body) label.now known.Settled result }
+        state.old.settings.now (GivenOf (IsOpenUpload place.now.bucket key text place.now.id))
+        (ops.UploadPart place.now.bucket key text place.now.number body) place.now.label
+        known.Settled
+        result }
     ensures stands { EnsuresIfDone (W.history state.new.store.now)
-        (λ tree. StandsIn tree (put_part_of bucket.now id number body label.now.moment)) result }
+        (λ tree. StandsIn tree
+        (put_part_of place.now.bucket place.now.id place.now.number body place.now.label.moment))
+        result }
     ensures unrefused { Unrefused result }
     ensures kind { AnswersUpload result }
 {
+    let alloc = state.alloc;
+    place.bucket.fits();
     let text = Bytes::from_slice(alloc, etag)?;
-    stored_end(
-        put_part(alloc, state, bucket, id, number, body, etag, label.moment),
-        text,
-    )
+    stored_end(put_part(state, place, body, etag), text)
 }

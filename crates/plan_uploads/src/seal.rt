@@ -1,8 +1,10 @@
 //! The call that seals a completion, and those behind it.
 ghost use Rattle.std.specs.Prelude.{◌≡◌, ◌≤◌, ◌+◌, ℕ, true, List, length, IfOk, Ok, Some};
+ghost use Rattle.s3_machine.specs.declared.only_if.OnlyIf.TheVariants.{Always};
 ghost use Rattle.s3_machine.specs.declared.operation.Label.{Label};
 ghost use Rattle.s3_machine.specs.declared.operation.Listed.{Listed};
-ghost use Rattle.s3_machine.specs.declared.operation.Op.TheVariants.{CompleteUpload};
+ghost use Rattle.s3_machine.specs.Ops as ops;
+ghost use Rattle.s3_machine.specs.Replies as replies;
 ghost use Rattle.swift_calls.specs.Step.{Fit};
 ghost use Rattle.upload_texts.specs.Sealed.{has_sealed_text};
 ghost use Rattle.upload_records.specs.Native.{seal_of, sealed_sub_manifests};
@@ -20,7 +22,7 @@ use gate_base::{Bytes, List, Memory, drop};
 use recovery::roll_forward_held;
 use s3_machine::{Reply, body_etag};
 use std::alloc::Global;
-use swift_calls::{Swift, SwiftRequest};
+use swift_calls::{FilePut, Swift, SwiftRequest};
 use upload_records::{gateway_container, law_completion_sealed, sealed_name};
 use upload_texts::Sealed;
 
@@ -29,11 +31,7 @@ use upload_texts::Sealed;
 /// yet, and over every observable store, consistent or not, what is sealed is this. After Failed, which comes only where the store's
 /// count of faults rose, and after Memory the state is the old one or that.
 /// Inconsistent never comes over an observable consistent account on which nothing is sealed and the completion's parts are there.
-pub(crate) fn seal<W: Swift>(
-    alloc: Global,
-    state: &mut Settled<'_, W>,
-    sealed: &Sealed,
-) -> Result<(), PlanFault>
+pub(crate) fn seal<W: Swift>(state: &mut Settled<'_, W>, sealed: &Sealed) -> Result<(), PlanFault>
     requires { has_sealed_text sealed.now ≡ true }
     ensures stays { Stays state.old state.new }
     ensures seals { Seals (W.history state.old.store.now) (W.history state.new.store.now) sealed.now
@@ -41,6 +39,7 @@ pub(crate) fn seal<W: Swift>(
     ensures stands { Ensures (W.history state.new.store.now)
         (λ tree. seal_of tree ≡ Some sealed.now) result }
 {
+    let alloc = state.alloc;
     law_completion_sealed();
     let text = sealed.write(alloc)?;
     let etag = body_etag(text.as_slice());
@@ -58,13 +57,14 @@ fn sealed_request(alloc: Global, text: Bytes) -> Result<SwiftRequest, Memory>
     let container = gateway_container(alloc)?;
     let name = sealed_name(alloc)?;
     let content_type = Bytes::from_slice(alloc, b"application/json")?;
-    Ok(SwiftRequest::PutObject {
+    Ok(SwiftRequest::PutObject(FilePut {
         container,
         name,
         content_type,
         meta: List::new(alloc),
         body: text,
-    })
+        fresh: false,
+    }))
 }
 
 /// Seals a completion and finishes it: PUT of what is sealed, which commits, then PUT of each sub-manifest, PUT of the object, PUT
@@ -72,21 +72,20 @@ fn sealed_request(alloc: Global, text: Bytes) -> Result<SwiftRequest, Memory>
 /// the completion is done all the same, and it is then unsure whether it is sealed still; the fault by which that is so is told. The
 /// faults are those of [`seal`], after which that is unsure too.
 pub(crate) fn seal_and_finish<W: Swift>(
-    alloc: Global,
     state: &mut Settled<'_, W>,
     sealed: &Sealed,
     reply: Reply,
 ) -> Completing
     requires text { has_sealed_text sealed.now ≡ true }
-    requires reply { reply ≡ Reply.Completed sealed.now.bucket sealed.now.key sealed.now.etag }
+    requires reply { reply ≡ replies.Completed sealed.now.bucket sealed.now.key sealed.now.etag }
     ensures stays { Stays state.old state.new }
     ensures plans { (text : List ℕ) (list : List Listed) (label : Label)
         → Plans (always (4 + sealed_sub_manifests sealed.now)) (W.history state.old.store.now)
         (W.history state.new.store.now)
         state.old.settings.now
         (GivenOf (CompletesBy state.old.settings.now text list label sealed.now))
-        (CompleteUpload sealed.now.bucket sealed.now.key text list) label (known_after_completion result.unfinished)
-        result.end }
+        (ops.CompleteUpload sealed.now.bucket sealed.now.key text list Always) label
+        (known_after_completion result.unfinished) result.end }
     ensures unsure { BreaksOff (W.history state.old.store.now) (W.history state.new.store.now) (Ok result) }
     ensures stands { EnsuresIfDone (W.history state.new.store.now)
         (StandsAs (known_after_completion result.unfinished) sealed.now) result.end }
@@ -96,8 +95,8 @@ pub(crate) fn seal_and_finish<W: Swift>(
     ensures unrefused { Unrefused result.end }
     ensures kind { AnswersUpload result.end }
 {
-    match seal(alloc, state, sealed) {
-        Ok(()) => end_complete_upload_sealed(roll_forward_held(alloc, state, sealed), reply),
+    match seal(state, sealed) {
+        Ok(()) => end_complete_upload_sealed(roll_forward_held(state, sealed), reply),
         Err(fault) => {
             drop(reply);
             Completing {

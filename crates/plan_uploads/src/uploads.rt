@@ -1,12 +1,11 @@
 //! The plans of the listings of uploads and of their parts.
-ghost use Rattle.std.specs.Prelude.{◌≡◌, ◌≤◌, ◌+◌, ℕ, true, List, Some};
+ghost use Rattle.std.specs.Prelude.{◌≡◌, ◌+◌, ℕ, List, Some};
 ghost use Rattle.s3_names.specs.declared.acl.Acl.{Acl};
-ghost use Rattle.s3_names.specs.Bucket.{is_bucket};
 ghost use Rattle.s3_names.specs.Id.{id_digits};
-ghost use Rattle.s3_machine.specs.Limits.{most_items};
-ghost use Rattle.s3_machine.specs.Step.{IsProperUploads};
 ghost use Rattle.s3_machine.specs.declared.operation.Label.{Label};
-ghost use Rattle.s3_machine.specs.declared.operation.Op.TheVariants.{ListParts, ListUploads};
+ghost use Rattle.s3_machine.specs.declared.operation.Op.TheVariants.{OnUploads};
+ghost use Rattle.s3_machine.specs.declared.operation.UploadsOp.TheVariants.{ListParts, ListUploads};
+ghost use Rattle.s3_machine.specs.Ops as ops;
 ghost use Rattle.swift_calls.specs.History.{present};
 ghost use Rattle.account_calls.specs.Answers.{named_by, pages, records_of};
 ghost use Rattle.account_calls.specs.Calls.{by_account, Any, Given, GivenOf, TellsBucket};
@@ -21,9 +20,11 @@ ghost use Rattle.plan_uploads.specs.Replies.{AnswersUpload};
 
 use crate::listed_uploads::list_uploads;
 use account_calls::{PlanFault, Settled, head_bucket};
-use gate_base::{Bytes, List};
-use s3_machine::{Code, PartItem, Reply, UploadItem};
-use std::alloc::Global;
+use gate_base::List;
+use s3_machine::{
+    Code, PartItem, PartListing, PartPage, Reply, UploadItem, UploadListing, UploadPage,
+    UploadsReply,
+};
 use swift_calls::Swift;
 use upload_calls::{Found, find_upload, list_parts};
 
@@ -31,163 +32,119 @@ use upload_calls::{Found, find_upload, list_parts};
 /// the calls commits. Over an observable consistent account at most two calls more than there are pages of the upload's
 /// segments. The faults are those of the calls.
 pub(crate) fn plan_list_parts<W: Swift>(
-    alloc: Global,
     state: &mut Settled<'_, W>,
-    bucket: Bytes,
-    key: Bytes,
-    text: &Bytes,
-    marker: u32,
-    max: u32,
+    list: PartListing,
 ) -> Result<Reply, PlanFault>
-    requires name { is_bucket bucket ≡ true }
-    requires few { max ≤ most_items }
     ensures stays { Stays state.old state.new }
     ensures plans { (label : Label)
         → Plans (by_account
-        (2 + pages (named_by (present (W.history state.old.store.now)) bucket text.now)))
+        (2 + pages (named_by (present (W.history state.old.store.now)) list.bucket list.id)))
         (W.history state.old.store.now) (W.history state.new.store.now) state.old.settings.now
-        (Given Any) (ListParts bucket key text.now marker max) label known.Settled result }
+        (Given Any) (OnUploads (ListParts list)) label known.Settled result }
     ensures stops { Stops alone 0 (W.history state.old.store.now) (W.history state.new.store.now) result }
     ensures kind { AnswersUpload result }
 {
-    match find_upload(alloc, state, &bucket, &key, text)? {
+    list.bucket.fits();
+    match find_upload(state, &list.bucket, &list.key, &list.id)? {
         Found::NoBucket => Ok(Reply::Refused(Code::NoSuchBucket)),
         Found::NoUpload => Ok(Reply::Refused(Code::NoSuchUpload)),
-        Found::Open(id) => plan_list_parts_within(alloc, state, bucket, key, id, marker, max),
+        Found::Open(id) => plan_list_parts_within(state, list, id),
     }
 }
 
 /// The rest of ListParts, of an upload that is open.
 fn plan_list_parts_within<W: Swift>(
-    alloc: Global,
     state: &mut Settled<'_, W>,
-    bucket: Bytes,
-    key: Bytes,
+    list: PartListing,
     id: u128,
-    marker: u32,
-    max: u32,
 ) -> Result<Reply, PlanFault>
-    requires name { is_bucket bucket ≡ true }
-    requires few { max ≤ most_items }
     ensures stays { Stays state.old state.new }
     ensures plans { (text : List ℕ) (label : Label)
         → Plans (by_account
-        (pages (named_by (present (W.history state.old.store.now)) bucket (id_digits id))))
+        (pages (named_by (present (W.history state.old.store.now)) list.bucket (id_digits id))))
         (W.history state.old.store.now) (W.history state.new.store.now) state.old.settings.now
-        (GivenOf (IsOpenUpload bucket key text id)) (ListParts bucket key text marker max) label
+        (GivenOf (IsOpenUpload list.bucket list.key text id))
+        (ops.ListParts list.bucket list.key text list.asked.marker list.asked.max) label
         known.Settled result }
     ensures unrefused { Unrefused result }
     ensures kind { AnswersUpload result }
 {
-    let listed = list_parts(alloc, state, &bucket, id, marker, max)?;
-    Ok(end_list_parts_plan(bucket, key, id, marker, max, listed))
+    list.bucket.fits();
+    let asked = list.asked.get();
+    let listed = list_parts(state, &list.bucket, id, asked.marker, asked.max)?;
+    Ok(end_list_parts_plan(list, id, listed))
 }
 
 /// The reply of the parts, and whether one is left over.
-fn end_list_parts_plan(
-    bucket: Bytes,
-    key: Bytes,
-    id: u128,
-    marker: u32,
-    max: u32,
-    listed: (List<PartItem>, bool),
-) -> Reply
-    ensures { result ≡ parts_told bucket key id marker max listed }
+fn end_list_parts_plan(list: PartListing, id: u128, listed: (List<PartItem>, bool)) -> Reply
+    ensures { result ≡ parts_told list.bucket list.key id list.asked.marker list.asked.max listed }
 {
     let (items, truncated) = listed;
-    Reply::Parts {
-        bucket,
-        key,
+    Reply::OfUploads(UploadsReply::Parts(PartPage {
+        bucket: list.bucket.into_text(),
+        key: list.key.into_text(),
         id,
-        marker,
-        max,
+        asked: list.asked.into_value(),
         items,
         truncated,
-    }
+    }))
 }
 
 /// ListUploads: HEAD of the bucket's container, then the names of all records page by page, and GET of each. None of the calls
 /// commits. Over an observable consistent account at most one call more than there are pages and records. The faults are those
 /// of the calls.
 pub(crate) fn plan_list_uploads<W: Swift>(
-    alloc: Global,
     state: &mut Settled<'_, W>,
-    bucket: Bytes,
-    prefix: Bytes,
-    key_marker: Bytes,
-    id_marker: Bytes,
-    max: u32,
-    url: bool,
+    list: UploadListing,
 ) -> Result<Reply, PlanFault>
-    requires name { is_bucket bucket ≡ true }
-    requires proper { IsProperUploads prefix key_marker id_marker max }
     ensures stays { Stays state.old state.new }
     ensures plans { (label : Label)
         → Plans (by_account (1 + pages
-        (records_of (present (W.history state.old.store.now)) bucket) + records_of
-        (present (W.history state.old.store.now)) bucket)) (W.history state.old.store.now)
+        (records_of (present (W.history state.old.store.now)) list.bucket) + records_of
+        (present (W.history state.old.store.now)) list.bucket)) (W.history state.old.store.now)
         (W.history state.new.store.now) state.old.settings.now (Given Any)
-        (ListUploads bucket prefix key_marker id_marker max url) label known.Settled result }
+        (OnUploads (ListUploads list)) label known.Settled result }
     ensures stops { Stops alone 0 (W.history state.old.store.now) (W.history state.new.store.now) result }
     ensures kind { AnswersUpload result }
 {
-    let Some(_) = head_bucket(state, &bucket)? else {
+    let Some(_) = head_bucket(state, &list.bucket)? else {
         return Ok(Reply::Refused(Code::NoSuchBucket));
     };
-    plan_list_uploads_within(
-        alloc, state, bucket, prefix, key_marker, id_marker, max, url,
-    )
+    plan_list_uploads_within(state, list)
 }
 
 /// The rest of ListUploads, in a bucket that is there, whatever list it has.
 fn plan_list_uploads_within<W: Swift>(
-    alloc: Global,
     state: &mut Settled<'_, W>,
-    bucket: Bytes,
-    prefix: Bytes,
-    key_marker: Bytes,
-    id_marker: Bytes,
-    max: u32,
-    url: bool,
+    list: UploadListing,
 ) -> Result<Reply, PlanFault>
-    requires name { is_bucket bucket ≡ true }
-    requires proper { IsProperUploads prefix key_marker id_marker max }
     ensures stays { Stays state.old state.new }
     ensures plans { (acl : Acl) (label : Label)
         → Plans (by_account (pages
-        (records_of (present (W.history state.old.store.now)) bucket) + records_of
-        (present (W.history state.old.store.now)) bucket)) (W.history state.old.store.now)
+        (records_of (present (W.history state.old.store.now)) list.bucket) + records_of
+        (present (W.history state.old.store.now)) list.bucket)) (W.history state.old.store.now)
         (W.history state.new.store.now) state.old.settings.now
-        (Given (λ s. TellsBucket bucket s (Some acl)))
-        (ListUploads bucket prefix key_marker id_marker max url) label known.Settled result }
+        (Given (λ s. TellsBucket list.bucket s (Some acl)))
+        (OnUploads (ListUploads list)) label known.Settled result }
     ensures unrefused { Unrefused result }
     ensures kind { AnswersUpload result }
 {
-    let listed = list_uploads(alloc, state, &bucket, &prefix, &key_marker, &id_marker, max)?;
-    Ok(end_list_uploads_plan(bucket, prefix, key_marker, id_marker, max, url, listed))
+    list.bucket.fits();
+    let listed = list_uploads(state, &list.bucket, list.asked.get())?;
+    Ok(end_list_uploads_plan(list, listed))
 }
 
 /// The reply of the uploads, and whether one is left over.
-fn end_list_uploads_plan(
-    bucket: Bytes,
-    prefix: Bytes,
-    key_marker: Bytes,
-    id_marker: Bytes,
-    max: u32,
-    url: bool,
-    listed: (List<UploadItem>, bool),
-) -> Reply
-    ensures { result ≡ uploads_told bucket prefix key_marker id_marker max url listed }
+fn end_list_uploads_plan(list: UploadListing, listed: (List<UploadItem>, bool)) -> Reply
+    ensures { result ≡ uploads_told list.bucket list.asked.prefix list.asked.key_marker
+        list.asked.id_marker
+        list.asked.max list.asked.url listed }
 {
     let (items, truncated) = listed;
-    Reply::Uploads {
-        bucket,
-        prefix,
-        key_marker,
-        id_marker,
-        max,
-        url,
+    Reply::OfUploads(UploadsReply::Uploads(UploadPage {
+        bucket: list.bucket.into_text(),
+        asked: list.asked.into_value(),
         items,
         truncated,
-    }
+    }))
 }

@@ -9,10 +9,10 @@ use Rattle.std.proofs.Math.Seq.{take-suc, take-append_seam}
 use Rattle.planned_swift.specs.Accounts.{IsOrdered, is_sized_object, IsSized}
 use Rattle.slo_manifest.specs.declared.Segment.{Segment}
 use Rattle.swift_calls.specs.Bodies.{Look, is_good_list}
-use Rattle.swift_calls.specs.Step.{Fit}
+use Rattle.swift_calls.specs.Step.{Fit, is_taken}
 use Rattle.swift_calls.specs.declared.account.Content.TheVariants.{Segments}
 use Rattle.swift_calls.specs.declared.account.Stored.{Stored as StoredObject}
-use Rattle.planned_swift.specs.Lists.{name_of, object_name, look_in, is_nil, without, with_readers, with_list, with_object, without_object, with_container, without_container, served, is_small}
+use Rattle.planned_swift.specs.Lists.{name_of, object_name, stored, stored_of, look_in, is_nil, without, with_readers, with_list, with_object, without_object, with_container, without_container, served, is_small}
 use Rattle.planned_swift.specs.Replay.{left_by, replayed, all_small}
 use Rattle.swift_calls.specs.declared.account.ReadList.{ReadList}
 use Rattle.planned_swift.specs.declared.account.Container.{Container}
@@ -77,7 +77,10 @@ ordered_served (PutContainer n readers created) account h = ordered_with _ n rea
 ordered_served (PostContainer n readers) account h = ordered_changed n (with_list readers) account (λ c. refl) (λ c is. is) h
 ordered_served (DeleteContainer n) account h = ordered_without _ n account h
 ordered_served (ListNames n prefix marker limit) account h = h
-ordered_served (PutObject c n content_type meta body) account h = ordered_changed c (with_object _) account (λ x. refl) (λ x is. ascends_placed object_name _ x.objects is) h
+ordered_served (PutObject put) account h = elim (is_taken put.fresh (stored put.container put.name account.containers)) as (λ b. IsOrdered (cond b account (record { containers = changed name_of put.container (with_object (stored_of put)) account.containers }))) [
+  | true ↦ h
+  | false ↦ ordered_changed put.container (with_object (stored_of put)) account (λ x. refl) (λ x is. ascends_placed object_name (stored_of put) x.objects is) h
+]
 ordered_served (PutManifest c n content_type meta segments) account h =
     let s : StoredObject = record { name = n; content_type = content_type; meta = meta; content = Segments segments } in
     elim (is_good_list (look_in account.containers) segments) as (λ b. IsOrdered (cond b (record { containers = changed name_of c (with_object s) account.containers }) account)) [
@@ -128,7 +131,10 @@ sized_served (PutContainer n readers created) account small h = sized_with _ n r
 sized_served (PostContainer n readers) account small h = all_changed name_of has_sizes n (with_list readers) account.containers (λ c is. is) h
 sized_served (DeleteContainer n) account small h = sized_without _ n account h
 sized_served (ListNames n prefix marker limit) account small h = h
-sized_served (PutObject c n content_type meta body) account small h = all_changed name_of has_sizes c (with_object _) account.containers (λ x is. all_placed object_name is_sized_object _ x.objects small is) h
+sized_served (PutObject put) account small h = elim (is_taken put.fresh (stored put.container put.name account.containers)) as (λ b. IsSized (cond b account (record { containers = changed name_of put.container (with_object (stored_of put)) account.containers }))) [
+  | true ↦ h
+  | false ↦ all_changed name_of has_sizes put.container (with_object (stored_of put)) account.containers (λ x is. all_placed object_name is_sized_object (stored_of put) x.objects small is) h
+]
 sized_served (PutManifest c n content_type meta segments) account small h =
     let s : StoredObject = record { name = n; content_type = content_type; meta = meta; content = Segments segments } in
     elim (is_good_list (look_in account.containers) segments) as (λ b. is_good_list (look_in account.containers) segments ≡ b → IsSized (cond b (record { containers = changed name_of c (with_object s) account.containers }) account)) [
@@ -185,7 +191,7 @@ small_fit (PutContainer n readers created) fit = refl
 small_fit (PostContainer n readers) fit = refl
 small_fit (DeleteContainer n) fit = refl
 small_fit (ListNames n prefix marker limit) fit = refl
-small_fit (PutObject c n content_type meta body) fit = lt-ltb _ _ (below_limit (length body) fit.4)
+small_fit (PutObject put) fit = lt-ltb _ _ (below_limit (length put.body) fit.4)
 small_fit (PutManifest c n content_type meta segments) fit = refl
 small_fit (HeadObject c n) fit = refl
 small_fit (GetObject c n range) fit = refl

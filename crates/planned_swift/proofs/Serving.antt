@@ -14,18 +14,19 @@ use Rattle.swift_calls.specs.Account.{SwiftAccount, SwiftObject, SwiftContainer,
 use Rattle.planned_swift.specs.Accounts.{folder_of, tree_of, is_sized_object}
 use Rattle.slo_manifest.specs.declared.Segment.{Segment}
 use Rattle.swift_calls.specs.Bodies.{etag_of, head_of, is_good_list, item_of, listed_in}
-use Rattle.swift_calls.specs.Step.{page, swift_step, items_reply, head_container, put_container, post_container, delete_container, delete_by, is_bare, put_object, put_listed, put_manifest, manifest_by, manifest_reply, head_reply, get_reply, delete_object, is_listed}
-use Rattle.planned_swift.specs.Lists.{name_of, object_name, listed, look_in, stored, stored_in, stored_item, AreOrdered, AreSized, AreSizedObjects, is_nil, without, with_readers, with_list, with_object, without_object, with_container, without_container, served}
+use Rattle.swift_calls.specs.Step.{Answer, page, swift_step, is_taken, plain_file, put_unless, items_reply, head_container, put_container, post_container, delete_container, delete_by, is_bare, put_object, put_listed, put_manifest, manifest_by, manifest_reply, head_reply, get_reply, delete_object, is_listed}
+use Rattle.planned_swift.specs.Lists.{name_of, object_name, listed, look_in, stored, stored_of, stored_in, stored_item, AreOrdered, AreSized, AreSizedObjects, is_nil, without, with_readers, with_list, with_object, without_object, with_container, without_container, served}
 use Rattle.swift_calls.specs.declared.account.ReadList.{ReadList}
 use Rattle.swift_calls.specs.declared.account.Content.TheVariants.{Plain, Segments}
 use Rattle.swift_calls.specs.declared.account.Stored.{Stored as StoredObject}
 use Rattle.planned_swift.specs.declared.account.Container.{Container}
 use Rattle.planned_swift.specs.declared.account.Account.{Account}
 use Rattle.swift_calls.specs.declared.heads.NameItem.{NameItem}
+use Rattle.swift_calls.specs.declared.calls.FilePut.{FilePut}
 use Rattle.swift_calls.specs.declared.calls.SwiftRequest.{SwiftRequest}
 use Rattle.swift_calls.specs.declared.calls.SwiftRequest.TheVariants.{ListContainers, HeadContainer, PutContainer, PostContainer, DeleteContainer, ListNames, PutObject, PutManifest, HeadObject, GetObject, GetManifest, DeleteObject}
 use Rattle.swift_calls.specs.declared.calls.SwiftReply.{SwiftReply}
-use Rattle.swift_calls.specs.declared.calls.SwiftReply.TheVariants.{Made, There, Gone, Stored, NotFound, NotEmpty, BadManifest, Containers, Readers, Names, Head}
+use Rattle.swift_calls.specs.declared.calls.SwiftReply.TheVariants.{Made, There, Gone, Stored, NotFound, Exists, NotEmpty, BadManifest, Containers, Readers, Names, Head}
 use Rattle.planned_swift.proofs.ByName.{found_at, found_none, all_named, changed_missing, map_without, entries_list, filled}
 use Rattle.planned_swift.proofs.Paging.{page_map}
 
@@ -182,6 +183,39 @@ stored_there n s cs i c etag e at is = ap Stored is ∙ ap (λ v. (put_object v 
 pub stored_put : (n : List ℕ) (s : StoredObject) (cs : List Container) (i : ℕ) (c : Container) → index_named name_of n cs ≡ Some i → slice_get cs i ≡ Some c → slice_set cs i (with_object s c) ≡ changed name_of n (with_object s) cs
 stored_put n s cs i c e at = index_changed name_of n (with_object s) cs i c e at
 
+-- ---- by whether its name is taken for it
+
+module _ (put : FilePut) (cs : List Container) where
+  abbrev free : Answer
+  free = put_object (get (tree_of (listed cs)) put.container) put.container put.name (plain_file put) (tree_of (listed cs))
+
+  abbrev taken : Bool
+  taken = is_taken put.fresh (stored put.container put.name cs)
+
+  -- by the maps as by the lists
+  same_taken : is_taken put.fresh (look_in cs put.container put.name) ≡ taken
+  same_taken = ap (is_taken put.fresh) (look_named put.container put.name cs (stored put.container put.name cs) refl) ∙ by put.fresh (stored put.container put.name cs)
+    where
+      by : (fresh : Bool) (v : Option StoredObject) → is_taken fresh (option_map file_of v) ≡ is_taken fresh v
+      by false v = refl
+      by true None = refl
+      by true (Some s) = refl
+
+  pub put_taken : (b : Bool) → b ≡ taken → b ≡ true → Exists ≡ (swift_step (PutObject put) (tree_of (listed cs))).reply
+  put_taken b e is = ap (λ t. (put_unless t free (tree_of (listed cs))).reply) (sym is ∙ e ∙ sym same_taken)
+
+  pub put_free : (b : Bool) → b ≡ taken → b ≡ false → free.reply ≡ (swift_step (PutObject put) (tree_of (listed cs))).reply
+  put_free b e is = ap (λ t. (put_unless t free (tree_of (listed cs))).reply) (sym is ∙ e ∙ sym same_taken)
+
+  abbrev after : Bool → List Container
+  after b = (cond b (listed cs) (listed (changed name_of put.container (with_object (stored_of put)) cs))).containers
+
+  pub taken_stays : (b : Bool) → b ≡ taken → b ≡ true → cs ≡ (served (PutObject put) (listed cs)).containers
+  taken_stays b e is = ap after (sym is ∙ e)
+
+  pub free_put : (b : Bool) → b ≡ taken → b ≡ false → changed name_of put.container (with_object (stored_of put)) cs ≡ (served (PutObject put) (listed cs)).containers
+  free_put b e is = ap after (sym is ∙ e)
+
 -- ---- PUT of an object that lists segments
 
 module _ (c n content_type : List ℕ) (meta : List (List ℕ)) (segments : List Segment) (cs : List Container) where
@@ -317,9 +351,13 @@ tree_served (DeleteContainer n) account =
     delete_tree (named name_of n account.containers) n account.containers
     ∙ ap (λ v. (delete_container v n (tree_of account)).tree) (sym (get-map_of name_of folder_of n account.containers))
 tree_served (ListNames n prefix marker limit) account = refl
-tree_served (PutObject c n content_type meta body) account =
-    let s : StoredObject = record { name = n; content_type = content_type; meta = meta; content = Plain body } in
-    with_object_tree c s account.containers ∙ sym (object_tree c n (file_of s) (tree_of account) _ refl)
+tree_served (PutObject put) account =
+    let put_into : Bool → Answer = λ b. put_unless b (put_object (get (tree_of account) put.container) put.container put.name (plain_file put) (tree_of account)) (tree_of account) in
+    elim (is_taken put.fresh (stored put.container put.name account.containers)) as (λ b. tree_of (cond b account (record { containers = changed name_of put.container (with_object (stored_of put)) account.containers })) ≡ (put_into b).tree) [
+      | true ↦ refl
+      | false ↦ with_object_tree put.container (stored_of put) account.containers ∙ sym (object_tree put.container put.name (plain_file put) (tree_of account) _ refl)
+    ]
+    ∙ ap (λ b. (put_into b).tree) (sym (same_taken put account.containers))
 tree_served (PutManifest c n content_type meta segments) account =
     let s : StoredObject = record { name = n; content_type = content_type; meta = meta; content = Segments segments } in
     elim (is_good_list (look_in account.containers) segments) as (λ b. tree_of (cond b (record { containers = changed name_of c (with_object s) account.containers }) account) ≡ cond b (put_file c n (file_of s) (tree_of account)) (tree_of account)) [

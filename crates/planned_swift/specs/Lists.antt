@@ -11,6 +11,8 @@ use Rattle.swift_calls.specs.declared.account.Content.TheVariants.{Plain, Segmen
 use Rattle.swift_calls.specs.declared.account.Stored.{Stored}
 use Rattle.planned_swift.specs.declared.account.Container.{Container}
 use Rattle.planned_swift.specs.declared.account.Account.{Account}
+use Rattle.swift_calls.specs.Step.{is_taken}
+use Rattle.swift_calls.specs.declared.calls.FilePut.{FilePut}
 use Rattle.swift_calls.specs.declared.calls.SwiftRequest.{SwiftRequest}
 use Rattle.swift_calls.specs.declared.calls.SwiftRequest.TheVariants.{
   ListContainers,
@@ -51,6 +53,10 @@ listed cs = record { containers = cs }
 -- the objects of containers by container and name
 abbrev pub look_in : List Container → Look
 look_in cs = find_object (tree_of (listed cs))
+
+-- the object that a PUT of bytes puts
+abbrev pub stored_of : FilePut → Stored
+stored_of put = record { name = put.name; content_type = put.content_type; meta = put.meta; content = Plain put.body }
 
 -- an object in a listing
 abbrev pub stored_item : Stored → NameItem
@@ -108,9 +114,8 @@ served (PutContainer container readers created) account =
 served (PostContainer container readers) account = record { containers = changed name_of container (with_list readers) account.containers }
 served (DeleteContainer container) account = record { containers = without_container (named name_of container account.containers) container account.containers }
 served (ListNames container prefix marker limit) account = account
-served (PutObject container name content_type meta body) account =
-    let object : Stored = record { name = name; content_type = content_type; meta = meta; content = Plain body } in
-    record { containers = changed name_of container (with_object object) account.containers }
+served (PutObject put) account =
+    cond (is_taken put.fresh (stored put.container put.name account.containers)) account (record { containers = changed name_of put.container (with_object (stored_of put)) account.containers })
 served (PutManifest container name content_type meta segments) account =
     let object : Stored = record { name = name; content_type = content_type; meta = meta; content = Segments segments } in
     cond (is_good_list (look_in account.containers) segments) (record { containers = changed name_of container (with_object object) account.containers }) account
@@ -127,7 +132,7 @@ is_small (PutContainer container readers created) = true
 is_small (PostContainer container readers) = true
 is_small (DeleteContainer container) = true
 is_small (ListNames container prefix marker limit) = true
-is_small (PutObject container name content_type meta body) = nat_lt (length body) (2 ^ 63)
+is_small (PutObject put) = nat_lt (length put.body) (2 ^ 63)
 is_small (PutManifest container name content_type meta segments) = true
 is_small (HeadObject container name) = true
 is_small (GetObject container name range) = true

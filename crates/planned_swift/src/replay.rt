@@ -231,4 +231,9 @@ impl Swift for MemSwift {
     {
         self.make(request)
     }
+
+    /// It has one replica.
+    fn call_newest(&mut self, request: &SwiftRequest) -> Result<SwiftReply, SwiftFault> {
+        self.make(request)
+    }
 }

@@ -5,9 +5,9 @@ ghost use Rattle.std.specs.Option.{option_map};
 ghost use Rattle.gate_base.specs.Named.{has_name, named, changed};
 ghost use Rattle.swift_calls.specs.Account.{file_of};
 ghost use Rattle.planned_swift.specs.Accounts.{tree_of, IsOrdered, IsSized};
-ghost use Rattle.swift_calls.specs.Step.{swift_step, put_object, manifest_by};
+ghost use Rattle.swift_calls.specs.Step.{swift_step, is_taken, plain_file, put_object, manifest_by};
 ghost use Rattle.swift_calls.specs.Bodies.{etag_of, listed_in};
-ghost use Rattle.planned_swift.specs.Lists.{served, name_of, object_name, is_nil, without, with_object, listed, AreOrdered, AreSized};
+ghost use Rattle.planned_swift.specs.Lists.{served, stored, stored_of, name_of, object_name, is_nil, without, with_object, listed, AreOrdered, AreSized};
 
 use crate::listable::is_good_list;
 use crate::listing::{list_containers_in_account, list_objects_in_account};
@@ -18,7 +18,7 @@ use gate_base::{Bytes, Copying, List, Memory, Named, drop};
 use slo_manifest::Segment;
 use std::alloc::Global;
 use std::mem;
-use swift_calls::{Content, ReadList, Stored, SwiftReply, SwiftRequest};
+use swift_calls::{Content, FilePut, ReadList, Stored, SwiftReply, SwiftRequest};
 
 /// Names the containers after a marker.
 #[tactic(auto, using(crate::proofs::Serving::names_listed))]
@@ -223,25 +223,28 @@ fn put_object_in_container(
     Ok(SwiftReply::Stored { etag })
 }
 
+/// What a file is put with beside its content.
+#[derive(Drop)]
+struct HeadGiven<'a> {
+    name: &'a Bytes,
+    content_type: &'a Bytes,
+    meta: &'a List<Bytes>,
+}
+
 /// An object with this content, whose other texts are copied.
-fn object_for_account(
-    name: &Bytes,
-    content_type: &Bytes,
-    meta: &List<Bytes>,
-    content: Content,
-) -> Result<Stored, Memory>
+fn object_for_account(head: &HeadGiven<'_>, content: Content) -> Result<Stored, Memory>
     ensures { IfOk result (λ object. object ≡ record {
-      name = name.now;
-      content_type = content_type.now;
-      meta = meta.now;
+      name = head.now.name.now;
+      content_type = head.now.content_type.now;
+      meta = head.now.meta.now;
       content = content;
     }) }
 {
-    let (name, content_type) = copied_texts(name, content_type)?;
+    let (name, content_type) = copied_texts(head.name, head.content_type)?;
     Ok(Stored {
         name,
         content_type,
-        meta: meta.copy()?,
+        meta: head.meta.copy()?,
         content,
     })
 }
@@ -253,27 +256,55 @@ fn copied_texts(first: &Bytes, second: &Bytes) -> Result<(Bytes, Bytes), Memory>
     Ok((first, second.copy()?))
 }
 
-/// Puts an object with these bytes into a container that is there. Where memory runs out, nothing changes.
+/// Puts an object with its own bytes into a container that is there. Where memory runs out, nothing changes.
+#[tactic(auto, using(crate::proofs::Serving::put_taken, crate::proofs::Serving::put_free, crate::proofs::Serving::taken_stays, crate::proofs::Serving::free_put))]
 fn serve_put_plain_object(
     alloc: Global,
     containers: &mut List<Container>,
-    container: &[u8],
-    name: &Bytes,
-    content_type: &Bytes,
-    meta: &List<Bytes>,
-    body: &Bytes,
+    put: &FilePut,
 ) -> Result<SwiftReply, Memory>
-    ensures reply { IfOk result (λ reply. reply ≡ (swift_step
-        (SwiftRequest.PutObject container.now name.now content_type.now meta.now body.now)
+    ensures reply { IfOk result (λ reply. reply ≡ (swift_step (SwiftRequest.PutObject put.now)
         (tree_of (listed containers.old))).reply) }
-    ensures effect { OnOk result (containers.new ≡ (served
-        (SwiftRequest.PutObject container.now name.now content_type.now meta.now body.now)
+    ensures effect { OnOk result (containers.new ≡ (served (SwiftRequest.PutObject put.now)
         (listed containers.old)).containers) }
     ensures err { OnErr result (containers.new ≡ containers.old) }
 {
-    let content = Content::Plain(body.copy()?);
-    let object = object_for_account(name, content_type, meta, content)?;
-    serve_put_object(alloc, containers, container, object)
+    if is_taken_in_account(containers, put) {
+        return Ok(SwiftReply::Exists);
+    }
+    serve_free_put(alloc, containers, put)
+}
+
+/// Whether a fresh object may not be put, since one is there under its name.
+fn is_taken_in_account(containers: &List<Container>, put: &FilePut) -> bool
+    ensures { result ≡ is_taken put.now.fresh
+        (stored put.now.container put.now.name containers.now) }
+{
+    put.fresh
+        && object_in_account(containers, put.container.as_slice(), put.name.as_slice()).is_some()
+}
+
+/// The same where its name isn't taken for it.
+fn serve_free_put(
+    alloc: Global,
+    containers: &mut List<Container>,
+    put: &FilePut,
+) -> Result<SwiftReply, Memory>
+    ensures reply { IfOk result (λ reply. reply ≡ (put_object
+        (get (tree_of (listed containers.old)) put.now.container) put.now.container put.now.name
+        (plain_file put.now) (tree_of (listed containers.old))).reply) }
+    ensures effect { OnOk result (containers.new ≡ changed name_of put.now.container
+        (with_object (stored_of put.now)) containers.old) }
+    ensures err { OnErr result (containers.new ≡ containers.old) }
+{
+    let head = HeadGiven {
+        name: &put.name,
+        content_type: &put.content_type,
+        meta: &put.meta,
+    };
+    let content = Content::Plain(put.body.copy()?);
+    let object = object_for_account(&head, content)?;
+    serve_put_object(alloc, containers, put.container.as_slice(), object)
 }
 
 /// Puts an object that lists these segments into a container that is there. Where memory runs out, nothing changes.
@@ -282,17 +313,17 @@ fn serve_put_manifest(
     alloc: Global,
     containers: &mut List<Container>,
     container: &[u8],
-    name: &Bytes,
-    content_type: &Bytes,
-    meta: &List<Bytes>,
+    head: &HeadGiven<'_>,
     segments: &List<Segment>,
 ) -> Result<SwiftReply, Memory>
     requires { AreSized containers.old }
     ensures reply { IfOk result (λ reply. reply ≡ (swift_step
-        (SwiftRequest.PutManifest container.now name.now content_type.now meta.now segments.now)
+        (SwiftRequest.PutManifest container.now head.now.name.now head.now.content_type.now
+        head.now.meta.now segments.now)
         (tree_of (listed containers.old))).reply) }
     ensures effect { OnOk result (containers.new ≡ (served
-        (SwiftRequest.PutManifest container.now name.now content_type.now meta.now segments.now)
+        (SwiftRequest.PutManifest container.now head.now.name.now head.now.content_type.now
+        head.now.meta.now segments.now)
         (listed containers.old)).containers) }
     ensures err { OnErr result (containers.new ≡ containers.old) }
 {
@@ -302,7 +333,7 @@ fn serve_put_manifest(
                 return Ok(SwiftReply::BadManifest);
             }
             let content = Content::Segments(segments.copy()?);
-            let object = object_for_account(name, content_type, meta, content)?;
+            let object = object_for_account(head, content)?;
             serve_put_object(alloc, containers, container, object)
         }
         None => Ok(SwiftReply::NotFound),
@@ -459,36 +490,21 @@ pub(crate) fn serve(
             marker.as_slice(),
             *limit,
         ),
-        SwiftRequest::PutObject {
-            container,
-            name,
-            content_type,
-            meta,
-            body,
-        } => serve_put_plain_object(
-            alloc,
-            containers,
-            container.as_slice(),
-            name,
-            content_type,
-            meta,
-            body,
-        ),
+        SwiftRequest::PutObject(put) => serve_put_plain_object(alloc, containers, put),
         SwiftRequest::PutManifest {
             container,
             name,
             content_type,
             meta,
             segments,
-        } => serve_put_manifest(
-            alloc,
-            containers,
-            container.as_slice(),
-            name,
-            content_type,
-            meta,
-            segments,
-        ),
+        } => {
+            let head = HeadGiven {
+                name,
+                content_type,
+                meta,
+            };
+            serve_put_manifest(alloc, containers, container.as_slice(), &head, segments)
+        }
         SwiftRequest::HeadObject { container, name } => {
             serve_head_object(alloc, containers, container.as_slice(), name.as_slice())
         }

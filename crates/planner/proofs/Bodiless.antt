@@ -1,4 +1,7 @@
 -- Whole replies give no byte of an object.
+use Rattle.s3_machine.specs.declared.operation.Reply.TheVariants.{OfObjects, OfUploads}
+use Rattle.s3_machine.specs.declared.operation.ObjectsReply.TheVariants as objects_reply
+use Rattle.s3_machine.specs.declared.operation.UploadsReply.TheVariants as uploads_reply
 use Rattle.std.specs.Prelude.{◌≡◌, Bool, true, false, Result, Ok, Err, IfOk}
 use Rattle.std.proofs.Common.{sym, subst, true≢false}
 use Rattle.s3_machine.specs.declared.operation.Reply.{Reply}
@@ -45,19 +48,19 @@ no_object reply.Memory none = tt
 no_object reply.Done none = tt
 no_object reply.Gone none = tt
 no_object (reply.NotModified head) none = tt
-no_object (reply.Buckets items) none = tt
-no_object (reply.Made bucket) none = tt
-no_object (reply.Location region) none = tt
-no_object (reply.AclOf acl) none = tt
-no_object (reply.Objects bucket asked items truncated) none = tt
-no_object (reply.Uploads bucket prefix key_marker id_marker max url items truncated) none = tt
+no_object (OfObjects (objects_reply.Buckets items)) none = tt
+no_object (OfObjects (objects_reply.Made bucket)) none = tt
+no_object (OfObjects (objects_reply.Location region)) none = tt
+no_object (OfObjects (objects_reply.AclOf acl)) none = tt
+no_object (OfObjects (objects_reply.Objects page)) none = tt
+no_object (OfUploads (uploads_reply.Uploads page)) none = tt
 no_object (reply.Stored etag) none = tt
-no_object (reply.Object head from length partial body) none = absurd (true≢false none)
-no_object (reply.Started bucket key id) none = tt
-no_object (reply.Parts bucket key id marker max items truncated) none = tt
-no_object (reply.Completed bucket key etag) none = tt
-no_object (reply.Deleted keys quiet) none = tt
-no_object (reply.Copied part etag modified) none = tt
+no_object (reply.Object object) none = absurd (true≢false none)
+no_object (OfUploads (uploads_reply.Started started)) none = tt
+no_object (OfUploads (uploads_reply.Parts page)) none = tt
+no_object (OfUploads (uploads_reply.Completed completed)) none = tt
+no_object (OfObjects (objects_reply.Deleted deleted)) none = tt
+no_object (reply.Copied copied) none = tt
 
 found_bodiless : (reading : Reading) → LeavesBytes reading → HasNoByte reading
 found_bodiless (Whole reply) leaves = no_object reply leaves

@@ -9,8 +9,8 @@ use Rattle.s3_machine.specs.declared.code.Code.TheVariants.{AccessDenied, NoSuch
 use Rattle.s3_machine.specs.declared.operation.Label.{Label}
 use Rattle.s3_machine.specs.declared.operation.ObjectHead.{ObjectHead}
 use Rattle.s3_machine.specs.declared.operation.Settings.{Settings}
-use Rattle.s3_machine.specs.declared.operation.Op.TheVariants.{ListBuckets, DeleteBucket, HeadBucket, GetLocation, GetBucketAcl, PutBucketAcl, GetObjectAcl}
-use Rattle.s3_machine.specs.declared.operation.Reply.TheVariants as reply
+use Rattle.s3_machine.specs.Ops.{ListBuckets, DeleteBucket, HeadBucket, GetLocation, GetBucketAcl, PutBucketAcl, GetObjectAcl}
+use Rattle.s3_machine.specs.Replies as reply
 use Rattle.s3_machine.specs.State.{Bucket, State}
 use Rattle.s3_machine.specs.Step.{S3Step, is_bare, may_read}
 use Rattle.s3_machine.proofs.lemmas.StepLemmas.{

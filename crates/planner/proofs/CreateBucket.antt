@@ -7,8 +7,9 @@ use Rattle.s3_names.specs.declared.acl.Acl.{Acl}
 use Rattle.s3_machine.specs.declared.code.Code.TheVariants.{BucketAlreadyOwnedByYou}
 use Rattle.s3_machine.specs.declared.operation.Label.{Label}
 use Rattle.s3_machine.specs.declared.operation.Settings.{Settings}
-use Rattle.s3_machine.specs.declared.operation.Op.TheVariants.{CreateBucket}
-use Rattle.s3_machine.specs.declared.operation.Reply.TheVariants.{Refused, Made}
+use Rattle.s3_machine.specs.Ops.{CreateBucket}
+use Rattle.s3_machine.specs.declared.operation.Reply.TheVariants.{Refused}
+use Rattle.s3_machine.specs.Replies.{Made}
 use Rattle.s3_machine.specs.State.{Bucket, State}
 use Rattle.s3_machine.specs.Step.{S3Step}
 use Rattle.s3_machine.proofs.lemmas.StepLemmas.{step_made, step_owned}

@@ -3,7 +3,7 @@ use Rattle.std.specs.Prelude.{◌≡◌, ◌≢◌, ◌≤◌, ◌<◌, ◌+◌,
 use Rattle.std.specs.Option.{option_and_then, option_map}
 use Rattle.std.specs.FinMap.{get}
 use Rattle.std.specs.Result.{IsErrAnd}
-use Rattle.std.proofs.Common.{refl, sym, ap, subst, ◌∙◌, arith, lit≤}
+use Rattle.std.proofs.Common.{refl, sym, ap, subst, ◌∙◌, arith, lit≤, true≢false}
 use Rattle.std.proofs.lemmas.Bool.{cond-true, eq-eqb}
 use Rattle.std.proofs.lemmas.Bool.Decides.{nat_tests}
 use Rattle.std.proofs.lemmas.List.{length-drop, length-take-le}
@@ -12,7 +12,7 @@ use Rattle.s3_machine.specs.declared.operation.Label.{Label}
 use Rattle.s3_machine.specs.declared.operation.ObjectHead.{ObjectHead}
 use Rattle.s3_machine.specs.declared.operation.Settings.{Settings}
 use Rattle.s3_machine.specs.declared.operation.Op.{Op}
-use Rattle.s3_machine.specs.declared.operation.Op.TheVariants.{GetObject}
+use Rattle.s3_machine.specs.Ops.{GetObject}
 use Rattle.s3_machine.specs.declared.operation.Reply.{Reply}
 use Rattle.s3_machine.specs.declared.operation.Reply.TheVariants as reply
 use Rattle.s3_machine.specs.declared.reading.Conditions.{Conditions}
@@ -22,7 +22,7 @@ use Rattle.s3_machine.specs.declared.reading.Range.{Range}
 use Rattle.s3_machine.specs.declared.reading.Span.{Span}
 use Rattle.s3_machine.specs.Reading.{judged, taken}
 use Rattle.s3_machine.specs.State.{Object, State}
-use Rattle.s3_machine.specs.Step.{IsPlace, may_read}
+use Rattle.s3_machine.specs.Step.{may_read}
 use Rattle.s3_machine.proofs.lemmas.Reading.{IsWithin}
 use Rattle.swift_calls.specs.Account.{SwiftAccount}
 use Rattle.swift_calls.specs.Bodies.{ranged}
@@ -35,19 +35,17 @@ use Rattle.account_calls.specs.Calls.{Bound, always, Any, Given, GivenOf, Met, H
 use Rattle.account_calls.specs.Fault.{CausesFault}
 use Rattle.account_calls.specs.Interpret.{IsShownHead}
 use Rattle.account_calls.specs.Plan.{IsOwnReply, Plans, Answered}
-use Rattle.account_calls.specs.Puts.{IfDone}
 use Rattle.account_calls.specs.Refusals.{shows, Stops}
 use Rattle.account_calls.specs.Shows.{alone}
 use Rattle.account_calls.specs.Told.{Told}
 use Rattle.account_calls.proofs.lemmas.Causes.{due_cause}
 use Rattle.account_calls.proofs.lemmas.Ends.{IsOneMore, IsWider, answers, answered_by, goes_on, met_settled, told_nothing}
 use Rattle.account_calls.proofs.lemmas.Faults.{err_is}
-use Rattle.account_calls.proofs.lemmas.Puts.{done_so}
 use Rattle.account_calls.proofs.lemmas.Told.{told_by, told_trans}
 use Rattle.planner.specs.declared.reading.Found.{Found}
 use Rattle.planner.specs.declared.reading.Reading.{Reading}
 use Rattle.planner.specs.declared.reading.Reading.TheVariants.{Whole, Pieces}
-use Rattle.planner.specs.Objects.{ObjectStands, StandsAnswered, TellsReadable}
+use Rattle.planner.specs.Objects.{TellsReadable}
 use Rattle.planner.specs.Reading.{found_reply, StopsOrFinds, IsFound, HasFound, AreFirst, HasBody, Finds, EndsOrFinds, AnsweredOrFound, reading_of, reading_end, piece_range, piece_end, TellsPiece, LeavesBytes}
 use Rattle.planner.proofs.Readings.{found, get_judged, size_is, fits, judged_found, not_modified_is_own, failed_is_own, beyond_is_own}
 use Rattle.planner.proofs.Steps.{object_by_head}
@@ -79,7 +77,7 @@ module _ (settings : Settings) (tree : SwiftAccount) (bucket key : List ℕ) (ra
 
 -- by the head of the object
 module _ {a b : History} (settings : Settings) (bucket key : List ℕ) (range : Option Range) (conditions : Conditions) (label : Label) (list : Acl) (head : ObjectHead) (value : Option ObjectHead) (told : value ≡ Some head)
-    (place : IsPlace bucket key) (allowed : may_read label.caller list ≡ true) (shown : IsShownHead (Some head)) (asks : Asks (always 1) a b IsSettled (Tells (TellsObject bucket key)) (Ok value)) where
+    (allowed : may_read label.caller list ≡ true) (shown : IsShownHead (Some head)) (asks : Asks (always 1) a b IsSettled (Tells (TellsObject bucket key)) (Ok value)) where
   readable_of : (tree : SwiftAccount) → TellsBucket bucket (s3_state tree) (Some list) → TellsObject bucket key (s3_state tree) (Some head) → TellsReadable bucket key label.caller list head (s3_state tree)
   readable_of tree there object = record { in_bucket = there; allowed = allowed; there = object }
 
@@ -90,7 +88,7 @@ module _ {a b : History} (settings : Settings) (bucket key : List ℕ) (range : 
   found_ends (Bytes span partial) is = record {
     told = told_by 1 asks met_settled (λ tree sound given object.
         body_of settings tree bucket key range conditions label list head (readable_of tree given.is (subst (TellsObject bucket key (s3_state tree)) told object)) span partial is);
-    is = judged_found bucket key range conditions head span partial place shown is;
+    is = judged_found bucket key range conditions head span partial shown is;
     reads = (range, conditions, refl);
   }
 
@@ -202,16 +200,3 @@ module _ (it : Found) (at size : ℕ) (is : IsFound it) (filled : 0 < size) (wit
         subst (Keeps b a.called b.called (Tells (TellsPiece it at size))) (sym (end ∙ ends.1)) (keeps.0, keeps.1, record { of_state = ends.2; same = keeps.2.same });
     settled = asks.settled;
   }
-
--- ---- what stands
-
--- a read puts no object
-pub read_puts_none : {bucket key : List ℕ} {range : Option Range} {conditions : Conditions} {label : Label} {h : History} (reading : Reading) → StandsAnswered (GetObject bucket key range conditions) label h reading
-read_puts_none reading = record { so = λ reply is observable. done_so reply tt }
-
-same_whole : (reply other : Reply) → Whole reply ≡ Whole other → reply ≡ other
-same_whole reply other e = cc
-
--- what the reply says
-pub whole_stands : {op : Op} {label : Label} {h : History} (reply : Reply) → (IsTrue h.observable → IfDone reply (ObjectStands op label (present h))) → StandsAnswered op label h (Whole reply)
-whole_stands {op = op} {label = label} {h = h} reply says = record { so = λ other is observable. subst (λ r. IfDone r (ObjectStands op label (present h))) (same_whole reply other is) (says observable) }

@@ -1,11 +1,14 @@
 pub mod Bodiless
 pub mod BucketSteps
 pub mod CreateBucket
+pub mod Conditions
+pub mod Deleting
 pub mod Finding
 pub mod Listings
 pub mod MakeBucket
 pub mod Readings
 pub mod Replies
+pub mod Stages
 pub mod Steps
 pub mod Stopping
 pub mod Unchanged

@@ -13,7 +13,7 @@ use Rattle.s3_machine.specs.Items.{with_prefix}
 use Rattle.s3_machine.specs.declared.operation.Label.{Label}
 use Rattle.s3_machine.specs.declared.operation.Settings.{Settings}
 use Rattle.s3_machine.specs.declared.operation.Op.{Op}
-use Rattle.s3_machine.specs.declared.operation.Op.TheVariants.{CreateBucket}
+use Rattle.s3_machine.specs.Ops.{CreateBucket}
 use Rattle.s3_machine.specs.declared.operation.Reply.{Reply}
 use Rattle.swift_calls.specs.Account.{SwiftAccount, files, files_of}
 use Rattle.swift_calls.specs.History.{History, present}

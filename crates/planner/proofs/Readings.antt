@@ -8,8 +8,8 @@ use Rattle.s3_machine.specs.declared.code.Code.TheVariants as code
 use Rattle.s3_machine.specs.declared.operation.Label.{Label}
 use Rattle.s3_machine.specs.declared.operation.ObjectHead.{ObjectHead}
 use Rattle.s3_machine.specs.declared.operation.Settings.{Settings}
-use Rattle.s3_machine.specs.declared.operation.Op.TheVariants.{GetObject, HeadObject}
-use Rattle.s3_machine.specs.declared.operation.Reply.TheVariants as reply
+use Rattle.s3_machine.specs.Ops.{GetObject, HeadObject}
+use Rattle.s3_machine.specs.Replies as reply
 use Rattle.s3_machine.specs.declared.reading.Conditions.{Conditions}
 use Rattle.s3_machine.specs.declared.reading.Judged.{Judged}
 use Rattle.s3_machine.specs.declared.reading.Judged.TheVariants.{Bytes}
@@ -18,7 +18,7 @@ use Rattle.s3_machine.specs.declared.reading.Span.{Span}
 use Rattle.s3_machine.specs.Reading.{judged, taken}
 use Rattle.s3_machine.specs.Shown.{IsShown}
 use Rattle.s3_machine.specs.State.{Object, Bucket, State}
-use Rattle.s3_machine.specs.Step.{S3Step, IsPlace, may_read, head_of, read_by}
+use Rattle.s3_machine.specs.Step.{S3Step, may_read, head_of, read_by}
 use Rattle.s3_machine.proofs.lemmas.Reading.{IsWithin, Fits, judged_fits}
 use Rattle.s3_machine.proofs.lemmas.StepLemmas.{get_without_bucket, head_without_bucket, get_denied, head_denied, get_without_key, head_without_key, step_read, step_headed}
 use Rattle.upload_records.specs.Native.{object_at}
@@ -104,12 +104,11 @@ pub judged_shown : (range : Option Range) (conditions : Conditions) (head : Obje
     → judged range conditions head ≡ Bytes span partial → IsShown head span.from span.length partial
 judged_shown range conditions head span partial shown is = span_shown head span partial shown (subst (Fits head.size) is (judged_fits range conditions head))
 
-pub judged_found : (bucket key : List ℕ) (range : Option Range) (conditions : Conditions) (head : ObjectHead) (span : Span) (partial : Bool) → IsPlace bucket key → IsShownHead (Some head)
+pub judged_found : (bucket key : List ℕ) (range : Option Range) (conditions : Conditions) (head : ObjectHead) (span : Span) (partial : Bool) → IsShownHead (Some head)
     → judged range conditions head ≡ Bytes span partial → IsFound (record { bucket = bucket; key = key; head = head; from = span.from; length = span.length; partial = partial })
-judged_found bucket key range conditions head span partial place shown is = record {
+judged_found bucket key range conditions head span partial shown is = record {
   shown = judged_shown range conditions head span partial shown is;
   within = (subst (Fits head.size) is (judged_fits range conditions head)).ends;
-  place = place;
 }
 
 pub object_is_own : (head : ObjectHead) (span : Span) (partial : Bool) (body : List ℕ) → IsShown head span.from span.length partial

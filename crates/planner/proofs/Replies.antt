@@ -1,7 +1,8 @@
 -- The replies of plans that are the service's own.
 use Rattle.std.specs.Prelude.{ℕ, Bool, true, false, List}
 use Rattle.s3_machine.specs.declared.code.Code.TheVariants.{BucketAlreadyOwnedByYou}
-use Rattle.s3_machine.specs.declared.operation.Reply.TheVariants.{Refused, Made, Buckets}
+use Rattle.s3_machine.specs.declared.operation.Reply.TheVariants.{Refused}
+use Rattle.s3_machine.specs.Replies.{Made, Buckets}
 use Rattle.std.specs.List.{All}
 use Rattle.s3_machine.specs.declared.items.BucketItem.{BucketItem}
 use Rattle.s3_machine.specs.Shown.{IsShownBucket}

@@ -1,4 +1,5 @@
 pub mod Buckets
+pub mod Deletions
 pub mod Listing
 pub mod Objects
 pub mod Reading

@@ -2,10 +2,13 @@
 use Rattle.std.specs.Prelude.{◌≡◌, ℕ, true, IsTrue, List, [], Option, Some}
 use Rattle.gate_base.specs.declared.caller.Caller.{Caller}
 use Rattle.s3_names.specs.declared.acl.Acl.{Acl}
+use Rattle.s3_machine.specs.declared.code.Code.{Code}
+use Rattle.s3_machine.specs.declared.only_if.OnlyIf.{OnlyIf}
 use Rattle.s3_machine.specs.declared.operation.Label.{Label}
 use Rattle.s3_machine.specs.declared.operation.ObjectHead.{ObjectHead}
 use Rattle.s3_machine.specs.declared.operation.Op.{Op}
-use Rattle.s3_machine.specs.declared.operation.Op.TheVariants.{PutObject}
+use Rattle.s3_machine.specs.declared.operation.Op.TheVariants.{OnObjects}
+use Rattle.s3_machine.specs.declared.operation.ObjectsOp.TheVariants.{PutObject}
 use Rattle.s3_machine.specs.declared.operation.Reply.{Reply}
 use Rattle.s3_machine.specs.declared.reading.Conditions.{Conditions}
 use Rattle.s3_machine.specs.declared.reading.Range.{Range}
@@ -13,18 +16,21 @@ use Rattle.s3_machine.specs.Reading.{judged}
 use Rattle.s3_machine.specs.State.{State}
 use Rattle.s3_machine.specs.Step.{may_read, read_by}
 use Rattle.swift_calls.specs.Account.{SwiftAccount}
-use Rattle.swift_calls.specs.History.{History, present}
 use Rattle.account_calls.specs.Calls.{TellsBucket, TellsObject}
+use Rattle.account_calls.specs.Condition.{TellsRefusal}
 use Rattle.account_calls.specs.Interpret.{put_of}
-use Rattle.account_calls.specs.Puts.{IfDone, StandsIn}
-use Rattle.planner.specs.declared.reading.Reading.{Reading}
-use Rattle.planner.specs.declared.reading.Reading.TheVariants.{Whole}
+use Rattle.account_calls.specs.Puts.{StandsIn}
 
 -- the object is there, in a bucket that one who asks may read
 pub record TellsReadable (bucket key : List ℕ) (caller : Caller) (acl : Acl) (head : ObjectHead) (state : State) : Type 0 where
   pub in_bucket : TellsBucket bucket state (Some acl)
   pub allowed : may_read caller acl ≡ true
   pub there : TellsObject bucket key state (Some head)
+
+-- the bucket is there with this list, and a write of the key is refused so by its condition, or isn't
+pub record MayWrite (bucket key : List ℕ) (list : Acl) (only_if : OnlyIf) (refused : Option Code) (state : State) : Type 0 where
+  pub in_bucket : TellsBucket bucket state (Some list)
+  pub told : TellsRefusal bucket key only_if state refused
 
 -- the reply to HeadObject, by the head of the object
 abbrev pub headed_reply : Option Range → Conditions → ObjectHead → Reply
@@ -34,9 +40,5 @@ headed_reply range conditions head = read_by head (λ span. []) (judged range co
 
 -- what an operation that was done leaves where it stands: the file of an object that it put; of any other operation nothing is said
 abbrev pub ObjectStands : Op → Label → SwiftAccount → Type 0
-ObjectStands (PutObject bucket key acl content_type meta body) label tree = StandsIn tree (put_of bucket key content_type meta body label.moment)
+ObjectStands (OnObjects (PutObject put)) label tree = StandsIn tree (put_of put.bucket put.key put.content.content_type put.content.meta put.content.body label.moment)
 ObjectStands _ label tree = Unit {0}
-
--- so it is after an operation that was answered; a read that found its object put none
-pub record StandsAnswered (op : Op) (label : Label) (h : History) (reading : Reading) : Type 0 where
-  pub so : (reply : Reply) → reading ≡ Whole reply → IsTrue h.observable → IfDone reply (ObjectStands op label (present h))

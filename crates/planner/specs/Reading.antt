@@ -1,11 +1,13 @@
 -- A read of an object before its bytes are got, and piece by piece. Source: this profile.
+use Rattle.s3_machine.specs.declared.operation.Reply.TheVariants as reply_as
 use Rattle.std.specs.Prelude.{◌≡◌, ◌==◌, ◌≤◌, ◌+◌, ◌-◌, ℕ, IsTrue, IfOk, if◌then◌else◌, List, [], length, take, drop, Option, None, Some, Result, Ok, Err, Bool, true, false}
 use Rattle.s3_machine.specs.declared.operation.Label.{Label}
 use Rattle.s3_machine.specs.declared.operation.ObjectHead.{ObjectHead}
 use Rattle.s3_machine.specs.declared.operation.Op.{Op}
-use Rattle.s3_machine.specs.declared.operation.Op.TheVariants.{GetObject}
+use Rattle.s3_machine.specs.Ops.{GetObject}
 use Rattle.s3_machine.specs.declared.operation.Reply.{Reply}
-use Rattle.s3_machine.specs.declared.operation.Reply.TheVariants.{Refused, NotModified, Object}
+use Rattle.s3_machine.specs.declared.operation.Reply.TheVariants.{Refused, NotModified}
+use Rattle.s3_machine.specs.Replies.{Object}
 use Rattle.s3_machine.specs.declared.code.Code.TheVariants as code
 use Rattle.s3_machine.specs.declared.operation.Settings.{Settings}
 use Rattle.s3_machine.specs.declared.reading.Conditions.{Conditions}
@@ -14,7 +16,7 @@ use Rattle.s3_machine.specs.declared.reading.Range.{Range}
 use Rattle.s3_machine.specs.declared.reading.Judged.TheVariants as judged_as
 use Rattle.s3_machine.specs.Shown.{IsShown}
 use Rattle.s3_machine.specs.State.{Object as StoredObject, State}
-use Rattle.s3_machine.specs.Step.{S3Step, IsPlace}
+use Rattle.s3_machine.specs.Step.{S3Step}
 use Rattle.swift_calls.specs.Account.{SwiftAccount}
 use Rattle.swift_calls.specs.History.{History, present}
 use Rattle.upload_records.specs.Native.{object_at, s3_state}
@@ -40,11 +42,10 @@ found_reply found body = Object found.head found.from found.length found.partial
 abbrev pub IsReadBy : Op → Found → Type 0
 IsReadBy op found = (range : Option Range) × (conditions : Conditions) × (op ≡ GetObject found.bucket found.key range conditions)
 
--- the bytes that are asked for: what is replied with them can be shown, they are bytes of the object, and it has a name
+-- the bytes that are asked for: what is replied with them can be shown, and they are bytes of the object
 pub record IsFound (found : Found) : Type 0 where
   pub shown : IsShown found.head found.from found.length found.partial
   pub within : found.from + found.length ≤ found.head.size
-  pub place : IsPlace found.bucket found.key
 
 -- the object is there, as HEAD told of it
 abbrev pub HasFound : Found → State → Type 0
@@ -108,7 +109,7 @@ ReadsBytes op = (bucket : List ℕ) × (key : List ℕ) × (range : Option Range
 
 -- whether the reply gives bytes of an object
 abbrev pub gives_bytes : Reply → Bool
-gives_bytes (Object head from length partial body) = true
+gives_bytes (reply_as.Object object) = true
 gives_bytes reply = false
 
 -- no bytes were got: a whole reply gives none of an object
@@ -118,7 +119,7 @@ LeavesBytes (Pieces found) = Unit {0}
 
 -- a reply gives no byte of an object: the one to HeadObject has its head alone
 abbrev pub GivesNoByte : Reply → Type 0
-GivesNoByte (Object head from length partial body) = body ≡ []
+GivesNoByte (reply_as.Object object) = object.body ≡ []
 GivesNoByte reply = Unit {0}
 
 -- so it is with a whole reply; the bytes that a read found are still to be got

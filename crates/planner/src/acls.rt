@@ -1,9 +1,8 @@
 //! The plans of the operations on access control lists.
-ghost use Rattle.std.specs.Prelude.{◌≡◌, true, Some, IfOk};
-ghost use Rattle.s3_names.specs.Bucket.{is_bucket};
-ghost use Rattle.s3_machine.specs.Step.{IsPlace};
+ghost use Rattle.std.specs.Prelude.{◌≡◌, Some, IfOk};
 ghost use Rattle.s3_machine.specs.declared.operation.Label.{Label};
-ghost use Rattle.s3_machine.specs.declared.operation.Op.TheVariants.{GetBucketAcl, GetObjectAcl, PutBucketAcl};
+ghost use Rattle.s3_machine.specs.declared.operation.Op.TheVariants.{OnObjects};
+ghost use Rattle.s3_machine.specs.declared.operation.ObjectsOp.TheVariants.{GetBucketAcl, GetObjectAcl, PutBucketAcl};
 ghost use Rattle.account_calls.specs.Calls.{always, Any, Given, TellsBucket};
 ghost use Rattle.account_calls.specs.Lent.{Stays};
 ghost use Rattle.account_calls.specs.declared.state.Known.TheVariants as known;
@@ -14,26 +13,24 @@ ghost use Rattle.planner.specs.Buckets.{set_reply};
 ghost use Rattle.planner.specs.Reading.{GivesNoByte};
 
 use account_calls::{PlanFault, Settled, head_bucket, post_bucket_container};
-use gate_base::Bytes;
-use s3_machine::{Code, Reply};
-use s3_names::Acl;
-use std::alloc::Global;
+use s3_machine::{BucketAcl, Code, ObjectName, ObjectsReply, Reply};
+use s3_names::{Acl, BucketName};
 use swift_calls::Swift;
 
 /// GetBucketAcl: HEAD of the container. At most one call, which doesn't commit. The faults are those of the call.
 pub(crate) fn get_bucket_acl<W: Swift>(
     state: &mut Settled<'_, W>,
-    bucket: &Bytes,
+    bucket: &BucketName,
 ) -> Result<Reply, PlanFault>
-    requires { is_bucket bucket.now ≡ true }
     ensures stays { Stays state.old state.new }
     ensures plans { (label : Label)
         → Plans (always 1) (W.history state.old.store.now) (W.history state.new.store.now)
-        state.old.settings.now (Given Any) (GetBucketAcl bucket.now) label known.Settled result }
+        state.old.settings.now (Given Any) (OnObjects (GetBucketAcl bucket.now)) label known.Settled
+        result }
     ensures bodiless { IfOk result GivesNoByte }
 {
     match head_bucket(state, bucket)? {
-        Some(list) => Ok(Reply::AclOf(list)),
+        Some(list) => Ok(Reply::OfObjects(ObjectsReply::AclOf(list))),
         None => Ok(Reply::Refused(Code::NoSuchBucket)),
     }
 }
@@ -41,17 +38,16 @@ pub(crate) fn get_bucket_acl<W: Swift>(
 /// PutBucketAcl: POST of the container, which commits. At most one call. The faults are those of the call.
 pub(crate) fn put_bucket_acl<W: Swift>(
     state: &mut Settled<'_, W>,
-    bucket: Bytes,
-    acl: Acl,
+    set: BucketAcl,
 ) -> Result<Reply, PlanFault>
-    requires { is_bucket bucket ≡ true }
     ensures stays { Stays state.old state.new }
     ensures plans { (label : Label)
         → Plans (always 1) (W.history state.old.store.now) (W.history state.new.store.now)
-        state.old.settings.now (Given Any) (PutBucketAcl bucket acl) label known.Settled result }
+        state.old.settings.now (Given Any) (OnObjects (PutBucketAcl set)) label known.Settled
+        result }
     ensures bodiless { IfOk result GivesNoByte }
 {
-    end_put_bucket_acl_plan(post_bucket_container(state, bucket, acl))
+    end_put_bucket_acl_plan(post_bucket_container(state, set.bucket, set.acl))
 }
 
 /// The end of PutBucketAcl after its call.
@@ -68,45 +64,39 @@ fn end_put_bucket_acl_plan(end: Result<bool, PlanFault>) -> Result<Reply, PlanFa
 /// GetObjectAcl: HEAD of the bucket's container, then HEAD of the object's file. At most two calls, none of which commits.
 /// The list is the bucket's. The faults are those of the calls.
 pub(crate) fn get_object_acl<W: Swift>(
-    alloc: Global,
     state: &mut Settled<'_, W>,
-    bucket: &Bytes,
-    key: &Bytes,
+    name: &ObjectName,
 ) -> Result<Reply, PlanFault>
-    requires place { IsPlace bucket.now key.now }
     ensures stays { Stays state.old state.new }
     ensures plans { (label : Label)
         → Plans (always 2) (W.history state.old.store.now) (W.history state.new.store.now)
-        state.old.settings.now (Given Any) (GetObjectAcl bucket.now key.now) label known.Settled
+        state.old.settings.now (Given Any) (OnObjects (GetObjectAcl name.now)) label known.Settled
         result }
     ensures stops { Stops alone 0 (W.history state.old.store.now) (W.history state.new.store.now) result }
     ensures bodiless { IfOk result GivesNoByte }
 {
-    let Some(list) = head_bucket(state, bucket)? else {
+    let Some(list) = head_bucket(state, &name.bucket)? else {
         return Ok(Reply::Refused(Code::NoSuchBucket));
     };
-    plan_object_acl_within(alloc, state, bucket, key, list)
+    plan_object_acl_within(state, name, list)
 }
 
 /// The rest of GetObjectAcl, in a bucket that has this access control list.
 fn plan_object_acl_within<W: Swift>(
-    alloc: Global,
     state: &mut Settled<'_, W>,
-    bucket: &Bytes,
-    key: &Bytes,
+    name: &ObjectName,
     list: Acl,
 ) -> Result<Reply, PlanFault>
-    requires place { IsPlace bucket.now key.now }
     ensures stays { Stays state.old state.new }
     ensures plans { (label : Label)
         → Plans (always 1) (W.history state.old.store.now) (W.history state.new.store.now)
-        state.old.settings.now (Given (λ s. TellsBucket bucket.now s (Some list)))
-        (GetObjectAcl bucket.now key.now) label known.Settled result }
+        state.old.settings.now (Given (λ s. TellsBucket name.now.bucket s (Some list)))
+        (OnObjects (GetObjectAcl name.now)) label known.Settled result }
     ensures stops { Stops alone 1 (W.history state.old.store.now) (W.history state.new.store.now) result }
     ensures bodiless { IfOk result GivesNoByte }
 {
-    let Some(_) = account_calls::head_object(alloc, state, bucket, key)? else {
+    let Some(_) = account_calls::head_object(state, &name.bucket, &name.key)? else {
         return Ok(Reply::Refused(Code::NoSuchKey));
     };
-    Ok(Reply::AclOf(list))
+    Ok(Reply::OfObjects(ObjectsReply::AclOf(list)))
 }

@@ -1,10 +1,9 @@
 //! The plans of the operations on buckets.
-ghost use Rattle.std.specs.Prelude.{◌≡◌, ◌<◌, ◌+◌, [], true, IfOk};
-ghost use Rattle.gate_base.specs.Told.{moment_limit};
-ghost use Rattle.s3_names.specs.Bucket.{is_bucket};
+ghost use Rattle.std.specs.Prelude.{◌≡◌, ◌+◌, [], IfOk};
 ghost use Rattle.s3_machine.specs.declared.operation.Label.{Label};
-ghost use Rattle.s3_machine.specs.declared.operation.Op.TheVariants.{CreateBucket, DeleteBucket, GetLocation, HeadBucket, ListBuckets};
-ghost use Rattle.s3_machine.specs.declared.operation.Reply.TheVariants.{Made};
+ghost use Rattle.s3_machine.specs.declared.operation.Op.TheVariants.{OnObjects};
+ghost use Rattle.s3_machine.specs.declared.operation.ObjectsOp.TheVariants.{CreateBucket, DeleteBucket, GetLocation, HeadBucket, ListBuckets};
+ghost use Rattle.s3_machine.specs.Replies.{Made};
 ghost use Rattle.swift_calls.specs.History.{present};
 ghost use Rattle.account_calls.specs.Answers.{most_calls};
 ghost use Rattle.account_calls.specs.Calls.{always, by_account, Any, Given, GivenOf, LacksBucket};
@@ -23,9 +22,8 @@ use account_calls::{
     put_container_beside,
 };
 use gate_base::{Bytes, Copying};
-use s3_machine::{Code, Label, Reply, may_read};
-use s3_names::Acl;
-use std::alloc::Global;
+use s3_machine::{BucketAcl, Code, Label, ObjectsReply, Reply, may_read};
+use s3_names::BucketName;
 use swift_calls::Swift;
 use upload_records::{segments_container, uploads_container};
 
@@ -33,23 +31,21 @@ use upload_records::{segments_container, uploads_container};
 /// in them, and its PUT, which commits. The reply is made before the last PUT, so that no memory is needed after it. At most as many
 /// calls as pages and files of both, and four more. The faults are those of the calls.
 pub(crate) fn create_bucket<W: Swift>(
-    alloc: Global,
     state: &mut Settled<'_, W>,
-    bucket: Bytes,
-    acl: Acl,
+    made: BucketAcl,
     label: &Label,
 ) -> Result<Reply, PlanFault>
-    requires name { is_bucket bucket ≡ true }
-    requires moment { label.now.moment < moment_limit }
     ensures stays { Stays state.old state.new }
-    ensures plans { Plans (most_calls (CreateBucket bucket acl) (present (W.history state.old.store.now)))
+    ensures plans { Plans (most_calls (OnObjects (CreateBucket made))
+        (present (W.history state.old.store.now)))
         (W.history state.old.store.now) (W.history state.new.store.now) state.old.settings.now
-        (Given Any) (CreateBucket bucket acl) label.now known.Settled result }
+        (Given Any) (OnObjects (CreateBucket made)) label.now known.Settled result }
     ensures stops { Stops alone 0 (W.history state.old.store.now) (W.history state.new.store.now) result }
     ensures bodiless { IfOk result GivesNoByte }
 {
-    match head_bucket(state, &bucket)? {
-        None => plan_create_missing_bucket(alloc, state, bucket, acl, label),
+    made.bucket.fits();
+    match head_bucket(state, &made.bucket)? {
+        None => plan_create_missing_bucket(state, made, label),
         Some(_) => Ok(Reply::Refused(Code::BucketAlreadyOwnedByYou)),
     }
 }
@@ -57,121 +53,119 @@ pub(crate) fn create_bucket<W: Swift>(
 /// The rest of CreateBucket, where the bucket is missing: the names of the containers beside it are written, and the first of them
 /// is made.
 fn plan_create_missing_bucket<W: Swift>(
-    alloc: Global,
     state: &mut Settled<'_, W>,
-    bucket: Bytes,
-    acl: Acl,
+    made: BucketAcl,
     label: &Label,
 ) -> Result<Reply, PlanFault>
-    requires name { is_bucket bucket ≡ true }
-    requires moment { label.now.moment < moment_limit }
     ensures stays { Stays state.old state.new }
-    ensures plans { Plans (by_account (3 + emptying bucket (present (W.history state.old.store.now))))
+    ensures plans { Plans (by_account (3 + emptying made.bucket
+        (present (W.history state.old.store.now))))
         (W.history state.old.store.now) (W.history state.new.store.now) state.old.settings.now
-        (Given (LacksBucket bucket)) (CreateBucket bucket acl) label.now known.Settled result }
+        (Given (LacksBucket made.bucket)) (OnObjects (CreateBucket made)) label.now known.Settled
+        result }
     ensures unrefused { Unrefused result }
     ensures bodiless { IfOk result GivesNoByte }
 {
-    let uploads = uploads_container(alloc, bucket.as_slice())?;
-    let segments = segments_container(alloc, bucket.as_slice())?;
-    put_container_beside(state, &bucket, &uploads)?;
-    plan_create_bucket_segments(alloc, state, bucket, &uploads, &segments, acl, label)
+    let alloc = state.alloc;
+    let uploads = uploads_container(alloc, made.bucket.bytes())?;
+    let segments = segments_container(alloc, made.bucket.bytes())?;
+    put_container_beside(state, &uploads)?;
+    plan_create_bucket_segments(state, made, &uploads, &segments, label)
 }
 
 /// The second of them is made.
 fn plan_create_bucket_segments<W: Swift>(
-    alloc: Global,
     state: &mut Settled<'_, W>,
-    bucket: Bytes,
+    made: BucketAcl,
     uploads: &Bytes,
     segments: &Bytes,
-    acl: Acl,
     label: &Label,
 ) -> Result<Reply, PlanFault>
-    requires name { is_bucket bucket ≡ true }
-    requires uploads { uploads.now ≡ uploads_name bucket }
-    requires segments { segments.now ≡ segments_name bucket }
-    requires moment { label.now.moment < moment_limit }
+    requires uploads { uploads.now ≡ uploads_name made.bucket }
+    requires segments { segments.now ≡ segments_name made.bucket }
     ensures stays { Stays state.old state.new }
-    ensures plans { Plans (by_account (2 + emptying bucket (present (W.history state.old.store.now))))
+    ensures plans { Plans (by_account (2 + emptying made.bucket
+        (present (W.history state.old.store.now))))
         (W.history state.old.store.now) (W.history state.new.store.now) state.old.settings.now
-        (GivenOf (HasUploads bucket)) (CreateBucket bucket acl) label.now known.Settled result }
+        (GivenOf (HasUploads made.bucket)) (OnObjects (CreateBucket made)) label.now known.Settled
+        result }
     ensures unrefused { Unrefused result }
     ensures bodiless { IfOk result GivesNoByte }
 {
-    put_container_beside(state, &bucket, segments)?;
-    empty_uploads(alloc, state, bucket, uploads, segments, acl, label)
+    made.bucket.fits();
+    put_container_beside(state, segments)?;
+    empty_uploads(state, made, uploads, segments, label)
 }
 
 /// All that stands in the first of them is deleted.
 fn empty_uploads<W: Swift>(
-    alloc: Global,
     state: &mut Settled<'_, W>,
-    bucket: Bytes,
+    made: BucketAcl,
     uploads: &Bytes,
     segments: &Bytes,
-    acl: Acl,
     label: &Label,
 ) -> Result<Reply, PlanFault>
-    requires name { is_bucket bucket ≡ true }
-    requires uploads { uploads.now ≡ uploads_name bucket }
-    requires segments { segments.now ≡ segments_name bucket }
-    requires moment { label.now.moment < moment_limit }
+    requires uploads { uploads.now ≡ uploads_name made.bucket }
+    requires segments { segments.now ≡ segments_name made.bucket }
     ensures stays { Stays state.old state.new }
-    ensures plans { Plans (by_account (1 + emptying bucket (present (W.history state.old.store.now))))
+    ensures plans { Plans (by_account (1 + emptying made.bucket
+        (present (W.history state.old.store.now))))
         (W.history state.old.store.now) (W.history state.new.store.now) state.old.settings.now
-        (GivenOf (HasSides bucket)) (CreateBucket bucket acl) label.now known.Settled result }
+        (GivenOf (HasSides made.bucket)) (OnObjects (CreateBucket made)) label.now known.Settled
+        result }
     ensures unrefused { Unrefused result }
     ensures bodiless { IfOk result GivesNoByte }
 {
+    let alloc = state.alloc;
+    made.bucket.fits();
     let all = Bytes::new(alloc);
-    purge(alloc, state, &bucket, uploads, &all)?;
-    empty_segments(alloc, state, bucket, segments, acl, label)
+    purge(state, uploads, &all)?;
+    empty_segments(state, made, segments, label)
 }
 
 /// All that stands in the second is deleted.
 fn empty_segments<W: Swift>(
-    alloc: Global,
     state: &mut Settled<'_, W>,
-    bucket: Bytes,
+    made: BucketAcl,
     segments: &Bytes,
-    acl: Acl,
     label: &Label,
 ) -> Result<Reply, PlanFault>
-    requires name { is_bucket bucket ≡ true }
-    requires segments { segments.now ≡ segments_name bucket }
-    requires moment { label.now.moment < moment_limit }
+    requires segments { segments.now ≡ segments_name made.bucket }
     ensures stays { Stays state.old state.new }
     ensures plans { Plans (by_account
-        (1 + purge_calls (present (W.history state.old.store.now)) (segments_name bucket) []))
+        (1 + purge_calls (present (W.history state.old.store.now)) (segments_name made.bucket) []))
         (W.history state.old.store.now) (W.history state.new.store.now) state.old.settings.now
-        (GivenOf (HasBareUploads bucket)) (CreateBucket bucket acl) label.now known.Settled result }
+        (GivenOf (HasBareUploads made.bucket)) (OnObjects (CreateBucket made)) label.now
+        known.Settled result }
     ensures unrefused { Unrefused result }
     ensures bodiless { IfOk result GivesNoByte }
 {
+    let alloc = state.alloc;
+    made.bucket.fits();
     let all = Bytes::new(alloc);
-    purge(alloc, state, &bucket, segments, &all)?;
-    plan_create_bare_bucket(state, bucket, acl, label)
+    purge(state, segments, &all)?;
+    plan_create_bare_bucket(state, made, label)
 }
 
 /// The bucket is made, where both containers beside it are there without a file.
 fn plan_create_bare_bucket<W: Swift>(
     state: &mut Settled<'_, W>,
-    bucket: Bytes,
-    acl: Acl,
+    made: BucketAcl,
     label: &Label,
 ) -> Result<Reply, PlanFault>
-    requires name { is_bucket bucket ≡ true }
-    requires moment { label.now.moment < moment_limit }
     ensures stays { Stays state.old state.new }
     ensures plans { Plans (always 1) (W.history state.old.store.now) (W.history state.new.store.now)
-        state.old.settings.now (GivenOf (MayMake bucket)) (CreateBucket bucket acl) label.now
+        state.old.settings.now (GivenOf (MayMake made.bucket)) (OnObjects (CreateBucket made))
+        label.now
         known.Settled result }
     ensures unrefused { Unrefused result }
     ensures bodiless { IfOk result GivesNoByte }
 {
-    let name = bucket.copy()?;
-    end_create_bucket_plan(put_bucket_container(state, bucket, acl, label.moment), name)
+    let name = made.bucket.copy_text()?;
+    end_create_bucket_plan(
+        put_bucket_container(state, made.bucket, made.acl, label),
+        name,
+    )
 }
 
 /// The end of CreateBucket after its last call.
@@ -179,38 +173,35 @@ fn end_create_bucket_plan(end: Result<(), PlanFault>, bucket: Bytes) -> Result<R
     ensures { result ≡ ended end (λ done. Made bucket) }
 {
     match end {
-        Ok(()) => Ok(Reply::Made { bucket }),
+        Ok(()) => Ok(Reply::OfObjects(ObjectsReply::Made(bucket))),
         Err(fault) => Err(fault),
     }
 }
 
 /// ListBuckets: GET of the account page by page, then HEAD of each bucket's container. At most as many calls as there are
 /// pages and buckets, none of which commits. The faults are those of the calls.
-pub(crate) fn list_buckets<W: Swift>(
-    alloc: Global,
-    state: &mut Settled<'_, W>,
-) -> Result<Reply, PlanFault>
+pub(crate) fn list_buckets<W: Swift>(state: &mut Settled<'_, W>) -> Result<Reply, PlanFault>
     ensures stays { Stays state.old state.new }
     ensures plans { (label : Label)
-        → Plans (most_calls ListBuckets (present (W.history state.old.store.now)))
+        → Plans (most_calls (OnObjects ListBuckets) (present (W.history state.old.store.now)))
         (W.history state.old.store.now) (W.history state.new.store.now) state.old.settings.now
-        (Given Any) ListBuckets label known.Settled result }
+        (Given Any) (OnObjects ListBuckets) label known.Settled result }
     ensures unrefused { Unrefused result }
     ensures bodiless { IfOk result GivesNoByte }
 {
-    Ok(Reply::Buckets(account_calls::list_buckets(alloc, state)?))
+    Ok(Reply::OfObjects(ObjectsReply::Buckets(account_calls::list_buckets(state)?)))
 }
 
 /// DeleteBucket: DELETE of the container, which commits. At most one call. The faults are those of the call.
 pub(crate) fn delete_bucket<W: Swift>(
     state: &mut Settled<'_, W>,
-    bucket: Bytes,
+    bucket: BucketName,
 ) -> Result<Reply, PlanFault>
-    requires { is_bucket bucket ≡ true }
     ensures stays { Stays state.old state.new }
     ensures plans { (label : Label)
         → Plans (always 1) (W.history state.old.store.now) (W.history state.new.store.now)
-        state.old.settings.now (Given Any) (DeleteBucket bucket) label known.Settled result }
+        state.old.settings.now (Given Any) (OnObjects (DeleteBucket bucket)) label known.Settled
+        result }
     ensures bodiless { IfOk result GivesNoByte }
 {
     end_delete_bucket_plan(delete_bucket_container(state, bucket))
@@ -231,13 +222,13 @@ fn end_delete_bucket_plan(end: Result<Dropped, PlanFault>) -> Result<Reply, Plan
 /// HeadBucket: HEAD of the container. At most one call, which doesn't commit. The faults are those of the call.
 pub(crate) fn plan_head_bucket<W: Swift>(
     state: &mut Settled<'_, W>,
-    bucket: &Bytes,
+    bucket: &BucketName,
     label: &Label,
 ) -> Result<Reply, PlanFault>
-    requires { is_bucket bucket.now ≡ true }
     ensures stays { Stays state.old state.new }
     ensures plans { Plans (always 1) (W.history state.old.store.now) (W.history state.new.store.now)
-        state.old.settings.now (Given Any) (HeadBucket bucket.now) label.now known.Settled result }
+        state.old.settings.now (Given Any) (OnObjects (HeadBucket bucket.now)) label.now
+        known.Settled result }
     ensures bodiless { IfOk result GivesNoByte }
 {
     let Some(list) = head_bucket(state, bucket)? else {
@@ -253,18 +244,18 @@ pub(crate) fn plan_head_bucket<W: Swift>(
 /// call. The faults are those of the call.
 pub(crate) fn get_location<W: Swift>(
     state: &mut Settled<'_, W>,
-    bucket: &Bytes,
+    bucket: &BucketName,
 ) -> Result<Reply, PlanFault>
-    requires { is_bucket bucket.now ≡ true }
     ensures stays { Stays state.old state.new }
     ensures plans { (label : Label)
         → Plans (always 1) (W.history state.old.store.now) (W.history state.new.store.now)
-        state.old.settings.now (Given Any) (GetLocation bucket.now) label known.Settled result }
+        state.old.settings.now (Given Any) (OnObjects (GetLocation bucket.now)) label known.Settled
+        result }
     ensures bodiless { IfOk result GivesNoByte }
 {
     let region = state.settings().region.copy()?;
     match head_bucket(state, bucket)? {
-        Some(_) => Ok(Reply::Location { region }),
+        Some(_) => Ok(Reply::OfObjects(ObjectsReply::Location(region))),
         None => Ok(Reply::Refused(Code::NoSuchBucket)),
     }
 }

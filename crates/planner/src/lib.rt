@@ -4,10 +4,11 @@
 
 mod acls;
 mod buckets;
+mod deletions;
 mod listing;
 mod objects;
 mod operation;
 mod reading;
 
 pub use operation::answer;
-pub use reading::{Found, Reading, read_piece};
+pub use reading::{Found, Reading, find_object, read_piece};

@@ -1,14 +1,16 @@
 -- A presigned URL. Source: Amazon S3 API Reference, "Authenticating requests: using query parameters"; that `host` alone is signed
 -- is this profile.
-use Rattle.std.specs.Prelude.{◌≡◌, ℕ, true, Bool, ◌&&◌, ◌||◌, nat_le, ◌==◌, List, [], ◌∷◌, ◌++◌, length, codes, decimal}
+use Rattle.std.specs.Prelude.{◌≡◌, ◌<◌, ◌≤◌, ℕ, true, Bool, ◌&&◌, ◌||◌, nat_le, ◌==◌, List, [], ◌∷◌, ◌++◌, length, codes, decimal}
 use Rattle.std.specs.List.{list_all, join_with_byte}
 use Rattle.hex.specs.Hex.{encode_lower}
 use Rattle.gate_base.specs.Ascii.{is_digit}
+use Rattle.gate_base.specs.declared.outside.TheConstants.{MOMENT_LIMIT as moment_limit}
 use Rattle.gate_base.specs.declared.page.Pair.{Pair}
 use Rattle.s3_names.specs.Escapes.{escaped_path}
 use Rattle.s3_names.specs.declared.target.Target.{Target}
 use Rattle.http_wire.specs.declared.message.Message.{Message}
 use Rattle.sigv4.specs.Canonical.{canonical_query}
+use Rattle.sigv4.specs.Keys.{is_key}
 use Rattle.sigv4.specs.Moment.{is_time, signing_time_seconds}
 use Rattle.sigv4.specs.Sign.{date_of, signed_of}
 use Rattle.presign.specs.Parameters.{has_presigned_parameter}
@@ -28,6 +30,14 @@ is_region_byte byte = (nat_le 97 byte && nat_le byte 122) || is_digit byte || by
 -- 1 to 32 of these bytes
 abbrev pub is_region : List ℕ → Bool
 is_region text = nat_le 1 (length text) && nat_le (length text) 32 && list_all is_region_byte text
+
+-- the key is one, the region one, the moment one that has a time, and the URL holds for a week at most
+pub record IsSigner (secret id region : List ℕ) (moment expires : ℕ) : Type 0 where
+  pub key : is_key (record { id = id; secret = secret }) ≡ true
+  pub regional : is_region region ≡ true
+  pub timed : moment < moment_limit
+  pub least : 1 ≤ expires
+  pub most : expires ≤ 604800
 
 -- the time of the calendar that is a moment
 abbrev pub IsTimeOf : ℕ → List ℕ → Type 0

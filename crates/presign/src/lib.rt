@@ -15,5 +15,5 @@ pub use claim::Claim;
 pub use laws::{law_made_is_read, law_made_is_taken, law_taken_exactly};
 pub use parameters::{is_presigned, without_signature};
 pub use refusal::QueryRefusal;
-pub use url::{has_signature_name, presign};
+pub use url::{UrlSigner, has_signature_name, presign};
 pub use verdict::verify_query;

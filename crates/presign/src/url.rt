@@ -1,11 +1,9 @@
 //! Presigned URLs.
-ghost use Rattle.std.specs.Prelude.{◌≡◌, ◌≤◌, ◌<◌, ◌++◌, ◌∷◌, [], true, false, IfOk, OnOk, codes};
-ghost use Rattle.gate_base.specs.declared.outside.TheConstants.{MOMENT_LIMIT as moment_limit};
+ghost use Rattle.std.specs.Prelude.{◌≡◌, ◌++◌, ◌∷◌, [], true, false, IfOk, OnOk, codes};
 ghost use Rattle.http_wire.specs.Headers.{has_single_header as has_one_header};
-ghost use Rattle.sigv4.specs.Keys.{is_key};
 ghost use Rattle.sigv4.specs.Moment.{is_time};
 ghost use Rattle.sigv4.specs.Sign.{date_of, signed_of};
-ghost use Rattle.presign.specs.Url.{has_signature_name, is_region, credential_for, scope_parameters, span_parameters, with_credential, signing_query, host_alone, url_of, IsPresigned};
+ghost use Rattle.presign.specs.Url.{has_signature_name, credential_for, scope_parameters, span_parameters, with_credential, signing_query, host_alone, url_of, IsPresigned, IsSigner};
 ghost use Rattle.presign.specs.Verdict.{signed_text};
 
 use crate::parameters::{
@@ -33,60 +31,55 @@ pub fn has_signature_name(target: &Target) -> bool
         || has_presigned_parameter(query, SIGNATURE)
 }
 
+/// Who signs a URL, and for how long: the secret and the id of the key, and the region; the moment from which on the URL holds, in
+/// seconds since 1970, and for how many seconds, a week at most. The region has 1 to 32 bytes of `a-z 0-9 -`.
+#[derive(Drop)]
+pub struct UrlSigner<'a> {
+    pub secret: &'a [u8],
+    pub id: &'a [u8],
+    pub region: &'a [u8],
+    pub moment: u64,
+    pub expires: u64,
+}
+
 /// A presigned URL for the method and the `host` of a message and for this target, from its path on: whoever has it may send
 /// that request, with any body, from 900 seconds before the moment until `expires` seconds after it (Amazon S3 API Reference,
-/// "Authenticating requests: using query parameters"). `host` is the one header that is signed. The moment is in seconds since
-/// 1970; `expires` is a week at most; the region has 1 to 32 bytes of `a-z 0-9 -`. Only memory can run out.
+/// "Authenticating requests: using query parameters"). `host` is the one header that is signed. Only memory can run out.
 pub fn presign(
     alloc: Global,
-    secret: &[u8],
-    id: &[u8],
-    region: &[u8],
+    signer: &UrlSigner<'_>,
     message: &Message,
     target: &Target,
-    moment: u64,
-    expires: u64,
 ) -> Result<Bytes, Memory>
     requires unsigned { has_signature_name target.now.query ≡ false }
     requires host { has_one_header (codes "host") message.now.headers ≡ true }
-    requires key { is_key (record { id = id.now; secret = secret.now }) ≡ true }
-    requires region { is_region region.now ≡ true }
-    requires moment { moment < moment_limit }
-    requires least { 1 ≤ expires }
-    requires most { expires ≤ 604800 }
-    ensures { IfOk result
-        (IsPresigned secret.now id.now region.now message.now target.now moment expires) }
+    requires signer { IsSigner signer.now.secret.now signer.now.id.now signer.now.region.now
+        signer.now.moment signer.now.expires }
+    ensures { IfOk result (IsPresigned signer.now.secret.now signer.now.id.now signer.now.region.now
+        message.now target.now signer.now.moment signer.now.expires) }
 {
-    let time = presigned_time_at(moment);
-    let query = signing_query(alloc, id, region, &time, expires, target.query.pairs())?;
+    let time = presigned_time_at(signer.moment);
+    let query = signing_query(alloc, signer, &time, target.query.pairs())?;
     let path = target.path.as_slice();
-    presigned_url_of(
-        alloc,
-        secret,
-        region,
-        message,
-        path,
-        &time,
-        query.as_slice(),
-    )
+    presigned_url_of(alloc, signer, message, path, &time, query.as_slice())
 }
 
 /// The path and the query of the URL.
 #[tactic(auto, using(crate::proofs::Times::time_has_form), unfolding(crate::specs::Url::url_of))]
 fn presigned_url_of(
     alloc: Global,
-    secret: &[u8],
-    region: &[u8],
+    signer: &UrlSigner<'_>,
     message: &Message,
     path: &[u8],
     time: &[u8],
     query: &[Pair],
 ) -> Result<Bytes, Memory>
     requires { is_time time.now ≡ true }
-    ensures { IfOk result
-        (λ url. url ≡ url_of secret.now region.now message.now path.now time.now query.now) }
+    ensures { IfOk result (λ url. url ≡ url_of signer.now.secret.now signer.now.region.now
+        message.now
+        path.now time.now query.now) }
 {
-    let signature = presigned_signature(alloc, secret, region, message, path, time, query)?;
+    let signature = presigned_signature(alloc, signer, message, path, time, query)?;
     let digits = hex::encode(alloc, signature)?;
     let path = encode_path(alloc, path)?;
     let query = canonical_query(alloc, query)?;
@@ -101,39 +94,42 @@ fn presigned_url_of(
 #[tactic(auto, using(crate::proofs::Times::time_has_form))]
 fn presigned_signature(
     alloc: Global,
-    secret: &[u8],
-    region: &[u8],
+    signer: &UrlSigner<'_>,
     message: &Message,
     path: &[u8],
     time: &[u8],
     query: &[Pair],
 ) -> Result<[u8; 32], Memory>
     requires { is_time time.now ≡ true }
-    ensures { IfOk result (λ signature. signature ≡ (signed_of secret.now time.now region.now
-        (signed_text message.now path.now query.now host_alone)).signature) }
+    ensures { IfOk result (λ signature. signature ≡ (signed_of signer.now.secret.now time.now
+        signer.now.region.now (signed_text message.now path.now query.now host_alone)).signature) }
 {
     let names = [Bytes::from_slice(alloc, b"host")?];
     let text = signed_text(alloc, message, path, query, &names)?;
-    Ok(sign(alloc, secret, time, region, text.as_slice())?.signature)
+    Ok(sign(alloc, signer.secret, time, signer.region, text.as_slice())?.signature)
 }
 
 /// The query as it is signed.
 #[tactic(auto, unfolding(crate::specs::Url::signing_query))]
 fn signing_query(
     alloc: Global,
-    id: &[u8],
-    region: &[u8],
+    signer: &UrlSigner<'_>,
     time: &[u8],
-    expires: u64,
     query: &[Pair],
 ) -> Result<List<Pair>, Memory>
     requires { is_time time.now ≡ true }
-    ensures { IfOk result
-        (λ pairs. pairs ≡ signing_query id.now region.now time.now expires query.now) }
+    ensures { IfOk result (λ pairs. pairs ≡ signing_query signer.now.id.now signer.now.region.now
+        time.now signer.now.expires query.now) }
 {
-    let credential = credential_for(alloc, id, time, region)?;
+    let credential = credential_for(alloc, signer.id, time, signer.region)?;
     let mut pairs = presigned_pairs_of(alloc, query)?;
-    add_parameters(alloc, &mut pairs, credential.as_slice(), time, expires)?;
+    add_parameters(
+        alloc,
+        &mut pairs,
+        credential.as_slice(),
+        time,
+        signer.expires,
+    )?;
     Ok(pairs)
 }
 

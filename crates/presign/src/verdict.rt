@@ -10,11 +10,10 @@ use crate::claim::{Claim, presigned_claim_of};
 use crate::parameters::SIGNATURE;
 use gate_base::{Bytes, Caller, Memory, Pair};
 use http_wire::{Message, has_header};
-use s3_names::Target;
 use sign_rules::must_be_signed;
 use sigv4::{
-    Keys, Signed, canonical_with, has_signed_pieces, has_wrong_scope, is_among, sign,
-    signature_differs, signing_time_seconds,
+    Keys, Signed, SignedRequest, canonical_with, has_signed_pieces, has_wrong_scope, is_among,
+    sign, signature_differs, signing_time_seconds,
 };
 use std::alloc::Global;
 
@@ -29,16 +28,15 @@ const EARLY: u64 = 900;
 pub fn verify_query(
     alloc: Global,
     keys: &Keys,
-    region: &[u8],
-    message: &Message,
-    target: &Target,
-    moment: u64,
+    request: &SignedRequest<'_>,
 ) -> Result<Caller, QueryRefusal>
-    requires { is_presigned target.now.query ≡ true }
-    ensures { Gives result (owner_or_refusal keys.now region.now message.now target.now moment) }
+    requires { is_presigned request.now.target.now.query ≡ true }
+    ensures { Gives result (owner_or_refusal keys.now request.now.region.now request.now.message.now
+        request.now.target.now request.now.moment) }
 {
-    match presigned_claim_of(alloc, message.headers.as_slice(), target.query.pairs())? {
-        Some(claim) => judge_query_claim(alloc, keys, region, message, target, moment, &claim),
+    let headers = request.message.headers.as_slice();
+    match presigned_claim_of(alloc, headers, request.target.query.pairs())? {
+        Some(claim) => judge_query_claim(alloc, keys, request, &claim),
         None => Err(QueryRefusal::QueryMalformed),
     }
 }
@@ -47,20 +45,15 @@ pub fn verify_query(
 fn judge_query_claim(
     alloc: Global,
     keys: &Keys,
-    region: &[u8],
-    message: &Message,
-    target: &Target,
-    moment: u64,
+    request: &SignedRequest<'_>,
     claim: &Claim,
 ) -> Result<Caller, QueryRefusal>
     requires { is_time claim.now.time ≡ true }
-    ensures { Gives result (judged_with (secret_of claim.now.by.id keys.now) region.now message.now
-        target.now moment claim.now) }
+    ensures { Gives result (judged_with (secret_of claim.now.by.id keys.now) request.now.region.now
+        request.now.message.now request.now.target.now request.now.moment claim.now) }
 {
     match keys.secret(claim.by.id.as_slice()) {
-        Some(secret) => judge_query_by_secret(
-            alloc, secret, region, message, target, moment, claim,
-        ),
+        Some(secret) => judge_query_by_secret(alloc, secret, request, claim),
         None => Err(QueryRefusal::UnknownKey),
     }
 }
@@ -69,18 +62,16 @@ fn judge_query_claim(
 fn judge_query_by_secret(
     alloc: Global,
     secret: &[u8],
-    region: &[u8],
-    message: &Message,
-    target: &Target,
-    moment: u64,
+    request: &SignedRequest<'_>,
     claim: &Claim,
 ) -> Result<Caller, QueryRefusal>
     requires { is_time claim.now.time ≡ true }
     ensures { Gives result
-        (first_refusal (reasons secret.now region.now message.now target.now moment claim.now)) }
+        (first_refusal (reasons secret.now request.now.region.now request.now.message.now
+        request.now.target.now request.now.moment claim.now)) }
 {
-    let headers = message.headers.as_slice();
-    if has_wrong_scope(region, &claim.by) {
+    let headers = request.message.headers.as_slice();
+    if has_wrong_scope(request.region, &claim.by) {
         return Err(QueryRefusal::WrongScope);
     }
     if leaves_unsigned(claim.by.names.as_slice(), headers) {
@@ -89,10 +80,10 @@ fn judge_query_by_secret(
     if has_signed_pieces(headers) {
         return Err(QueryRefusal::Streaming);
     }
-    if is_out_of_time(claim, moment) {
+    if is_out_of_time(claim, request.moment) {
         return Err(QueryRefusal::OutOfTime);
     }
-    let due = expected_query_signature(alloc, secret, region, message, target, claim)?;
+    let due = expected_query_signature(alloc, secret, request, claim)?;
     if signature_differs(alloc, &claim.by, &due)? {
         return Err(QueryRefusal::SignatureDiffers(due.canonical_hash));
     }
@@ -135,23 +126,22 @@ fn is_out_of_time(claim: &Claim, moment: u64) -> bool
 fn expected_query_signature(
     alloc: Global,
     secret: &[u8],
-    region: &[u8],
-    message: &Message,
-    target: &Target,
+    request: &SignedRequest<'_>,
     claim: &Claim,
 ) -> Result<Signed, Memory>
     requires { is_time claim.now.time ≡ true }
-    ensures { IfOk result
-        (λ due. due ≡ expected secret.now region.now message.now target.now claim.now) }
+    ensures { IfOk result (λ due. due ≡ expected secret.now request.now.region.now
+        request.now.message.now request.now.target.now claim.now) }
 {
-    let query = target.query.without(alloc, SIGNATURE)?;
+    let query = request.target.query.without(alloc, SIGNATURE)?;
     let names = claim.by.names.as_slice();
-    let text = signed_text(alloc, message, target.path.as_slice(), query.pairs(), names)?;
+    let path = request.target.path.as_slice();
+    let text = signed_text(alloc, request.message, path, query.pairs(), names)?;
     sign(
         alloc,
         secret,
         claim.time.as_slice(),
-        region,
+        request.region,
         text.as_slice(),
     )
 }

@@ -1,16 +1,15 @@
-ghost use Rattle.std.specs.Prelude.{◌≡◌, ◌≤◌, ◌<◌, true, false, IsTrue};
+ghost use Rattle.std.specs.Prelude.{◌≡◌, false, IsTrue};
 ghost use Rattle.gate_base.specs.Line.{LineServes};
-ghost use Rattle.gate_base.specs.Told.{moment_limit};
 ghost use Rattle.http_wire.specs.declared.judge.TheConstants.{BODY_LIMIT};
 ghost use Rattle.http_wire.specs.Interim.{OwesInterim};
-ghost use Rattle.sigv4.specs.Keys.{is_key};
-ghost use Rattle.presign.specs.Url.{is_region};
+ghost use Rattle.presign.specs.Url.{IsSigner};
 ghost use Rattle.sign_cmd.specs.Signing.{SignsOn};
 ghost use Rattle.presign_cmd.specs.Presigning.{Answers, AnswersFrom, AnswersFirst, Presigns, SendsBy, SendsFirst, is_failed_presigning};
 
 use crate::message::presign_message;
 use gate_base::{Bytes, Counted, Line, Memory};
 use http_wire::{BODY_LIMIT, Got, Message, ReadFault, Reader};
+use presign::UrlSigner;
 use std::alloc::Global;
 
 /// How presigning ended.
@@ -26,38 +25,32 @@ pub enum Presigning {
     Memory,
 }
 
-/// Reads the first request of the first connection and makes its presigned URL (see [`presign::presign`]) by the key of this id
-/// and secret, for a region. The moment is in seconds since 1970; from it on the URL holds for `expires` seconds, a week at
-/// most. It is presigned where its target reads, the query has none of the six names of a signature, and exactly one header is
-/// `host`; else, and where no request comes first, the answer is `NoRequest`. `host` is the one header that is signed. Where the
-/// line has no connection, no request comes first. Nothing is written to the line but what [`Reader::next_request`] writes: the
-/// interim line, where the request asks for it.
+/// Reads the first request of the first connection and makes its presigned URL (see [`presign::presign`]) for this signer. It is
+/// presigned where its target reads, the query has none of the six names of a signature, and exactly one header is `host`; else,
+/// and where no request comes first, the answer is `NoRequest`. `host` is the one header that is signed. Where the line has no
+/// connection, no request comes first. Nothing is written to the line but what [`Reader::next_request`] writes: the interim
+/// line, where the request asks for it.
 pub fn presign_first<N: Line<W>, W: Counted>(
     alloc: Global,
-    secret: &[u8],
-    id: &[u8],
-    region: &[u8],
-    moment: u64,
-    expires: u64,
+    signer: &UrlSigner<'_>,
     line: &mut N,
     store: &W,
 ) -> Presigning
-    requires key { is_key (record { id = id.now; secret = secret.now }) ≡ true }
-    requires region { is_region region.now ≡ true }
-    requires moment { moment < moment_limit }
-    requires least { 1 ≤ expires }
-    requires most { expires ≤ 604800 }
+    requires signer { IsSigner signer.now.secret.now signer.now.id.now signer.now.region.now
+        signer.now.moment signer.now.expires }
     ensures line { SignsOn (is_failed_presigning result) (W.called store.now) (N.model line.old)
         (N.model line.new) }
     ensures effect { IsTrue (N.model line.old).observable
-        → AnswersFirst (Presigns secret.now id.now region.now moment expires)
+        → AnswersFirst (Presigns signer.now.secret.now signer.now.id.now signer.now.region.now
+        signer.now.moment
+        signer.now.expires)
         (N.model line.old).transcript.waiting result }
     ensures sent { IsTrue (N.model line.old).observable
         → SendsFirst (W.called store.now) (N.model line.old).transcript result
         (N.model line.new).transcript }
 {
     match line.next() {
-        Ok(true) => presign_next(alloc, secret, id, region, moment, expires, line, store),
+        Ok(true) => presign_next(alloc, signer, line, store),
         Ok(false) => Presigning::NoRequest,
         Err(_) => Presigning::LineFailed,
     }
@@ -66,23 +59,18 @@ pub fn presign_first<N: Line<W>, W: Counted>(
 /// The same for the connection that is open.
 fn presign_next<N: Line<W>, W: Counted>(
     alloc: Global,
-    secret: &[u8],
-    id: &[u8],
-    region: &[u8],
-    moment: u64,
-    expires: u64,
+    signer: &UrlSigner<'_>,
     line: &mut N,
     store: &W,
 ) -> Presigning
     requires open { IsTrue (N.model line.old).is_open }
-    requires key { is_key (record { id = id.now; secret = secret.now }) ≡ true }
-    requires region { is_region region.now ≡ true }
-    requires moment { moment < moment_limit }
-    requires least { 1 ≤ expires }
-    requires most { expires ≤ 604800 }
+    requires signer { IsSigner signer.now.secret.now signer.now.id.now signer.now.region.now
+        signer.now.moment signer.now.expires }
     ensures line { LineServes (is_failed_presigning result) (N.model line.old) (N.model line.new) }
     ensures effect { IsTrue (N.model line.old).observable
-        → AnswersFrom (Presigns secret.now id.now region.now moment expires) (N.model line.old).transcript.rest result }
+        → AnswersFrom (Presigns signer.now.secret.now signer.now.id.now signer.now.region.now
+        signer.now.moment
+        signer.now.expires) (N.model line.old).transcript.rest result }
     ensures sent { IsTrue (N.model line.old).observable
         → SendsBy (OwesInterim BODY_LIMIT (N.model line.old).transcript.rest)
         (N.model line.old).transcript.begun (W.called store.now) (N.model line.old).transcript.sent
@@ -93,9 +81,7 @@ fn presign_next<N: Line<W>, W: Counted>(
         Err(_) => return Presigning::Memory,
     };
     match reader.next_request(BODY_LIMIT, line, store) {
-        Ok(Got::Request(message)) => {
-            presigning_of_message(alloc, secret, id, region, moment, expires, &message)
-        }
+        Ok(Got::Request(message)) => presigning_of_message(alloc, signer, &message),
         Ok(Got::End) => Presigning::NoRequest,
         Ok(Got::CutShort(_)) => Presigning::NoRequest,
         Ok(Got::Refused { .. }) => Presigning::NoRequest,
@@ -105,25 +91,16 @@ fn presign_next<N: Line<W>, W: Counted>(
 }
 
 /// The answer to a request.
-fn presigning_of_message(
-    alloc: Global,
-    secret: &[u8],
-    id: &[u8],
-    region: &[u8],
-    moment: u64,
-    expires: u64,
-    message: &Message,
-) -> Presigning
-    requires key { is_key (record { id = id.now; secret = secret.now }) ≡ true }
-    requires region { is_region region.now ≡ true }
-    requires moment { moment < moment_limit }
-    requires least { 1 ≤ expires }
-    requires most { expires ≤ 604800 }
+fn presigning_of_message(alloc: Global, signer: &UrlSigner<'_>, message: &Message) -> Presigning
+    requires signer { IsSigner signer.now.secret.now signer.now.id.now signer.now.region.now
+        signer.now.moment signer.now.expires }
     ensures heard { is_failed_presigning result ≡ false }
-    ensures effect { Answers (Presigns secret.now id.now region.now moment expires) message.now
+    ensures effect { Answers (Presigns signer.now.secret.now signer.now.id.now signer.now.region.now
+        signer.now.moment
+        signer.now.expires) message.now
         result }
 {
-    match presign_message(alloc, secret, id, region, moment, expires, message) {
+    match presign_message(alloc, signer, message) {
         Ok(Some(url)) => Presigning::Url(url),
         Ok(None) => Presigning::NoRequest,
         Err(Memory) => Presigning::Memory,

@@ -1,42 +1,32 @@
 //! The URL of a request: whether it can be presigned, by its host and by a target that has no parameter of a signature, and the URL.
-ghost use Rattle.std.specs.Prelude.{◌≡◌, ◌≤◌, ◌<◌, true, false, MatchOption, IfOk};
-ghost use Rattle.gate_base.specs.Told.{moment_limit};
+ghost use Rattle.std.specs.Prelude.{◌≡◌, false, MatchOption, IfOk};
 ghost use Rattle.s3_names.specs.Target.{target_of};
-ghost use Rattle.sigv4.specs.Keys.{is_key};
-ghost use Rattle.presign.specs.Url.{IsPresigned, is_region, has_signature_name};
+ghost use Rattle.presign.specs.Url.{IsPresigned, IsSigner, has_signature_name};
 ghost use Rattle.presign_cmd.specs.Presigning.{can_presign, has_host, target_to_presign, Presigns};
 
 use gate_base::{Bytes, Memory};
 use http_wire::{Message, has_single_header};
-use presign::{has_signature_name, presign};
+use presign::{UrlSigner, has_signature_name, presign};
 use s3_names::{NameFault, Target};
 use std::alloc::Global;
 
 /// The URL of a request. None exactly where it can't be presigned.
 pub(crate) fn presign_message(
     alloc: Global,
-    secret: &[u8],
-    id: &[u8],
-    region: &[u8],
-    moment: u64,
-    expires: u64,
+    signer: &UrlSigner<'_>,
     message: &Message,
 ) -> Result<Option<Bytes>, Memory>
-    requires key { is_key (record { id = id.now; secret = secret.now }) ≡ true }
-    requires region { is_region region.now ≡ true }
-    requires moment { moment < moment_limit }
-    requires least { 1 ≤ expires }
-    requires most { expires ≤ 604800 }
+    requires signer { IsSigner signer.now.secret.now signer.now.id.now signer.now.region.now
+        signer.now.moment signer.now.expires }
     ensures { IfOk result (λ answer. MatchOption answer (can_presign message.now ≡ false)
-        (Presigns secret.now id.now region.now moment expires message.now)) }
+        (Presigns signer.now.secret.now signer.now.id.now signer.now.region.now signer.now.moment
+        signer.now.expires message.now)) }
 {
     if !has_host(message) {
         return Ok(None);
     }
     match target_to_presign(alloc, message.target.as_slice())? {
-        Some(target) => Ok(Some(presign(
-            alloc, secret, id, region, message, &target, moment, expires,
-        )?)),
+        Some(target) => Ok(Some(presign(alloc, signer, message, &target)?)),
         None => Ok(None),
     }
 }

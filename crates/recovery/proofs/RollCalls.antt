@@ -11,7 +11,7 @@ use Rattle.swift_calls.specs.History.{History, Calls, present}
 use Rattle.swift_calls.specs.Step.{Answer, delete_object, put_object, swift_step}
 use Rattle.swift_calls.specs.declared.calls.SwiftFault.{SwiftFault}
 use Rattle.swift_calls.specs.declared.calls.SwiftReply.{SwiftReply}
-use Rattle.swift_calls.specs.declared.calls.SwiftReply.TheVariants.{Made, There, Gone, Stored, NotFound, NotEmpty, BadManifest, Unsatisfiable, Containers, Readers, Names, Head, Bytes, Manifest}
+use Rattle.swift_calls.specs.declared.calls.SwiftReply.TheVariants.{Made, There, Gone, Stored, NotFound, Exists, NotEmpty, BadManifest, Unsatisfiable, Containers, Readers, Names, Head, Bytes, Manifest}
 use Rattle.swift_calls.specs.declared.calls.SwiftRequest.{SwiftRequest}
 use Rattle.swift_calls.specs.declared.calls.SwiftRequest.TheVariants.{DeleteObject, GetObject}
 use Rattle.swift_marks.specs.Pack.{pack_of}
@@ -76,6 +76,7 @@ absent There e = cc
 absent Gone e = cc
 absent (Stored etag) e = cc
 absent NotFound e = refl
+absent Exists e = cc
 absent NotEmpty e = cc
 absent BadManifest e = cc
 absent Unsatisfiable e = cc

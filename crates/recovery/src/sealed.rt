@@ -11,7 +11,7 @@ use gate_base::{Bytes, Copying, List, Memory};
 use s3_machine::Listed;
 use s3_names::id_digits;
 use std::alloc::Global;
-use swift_calls::SwiftRequest;
+use swift_calls::{FilePut, SwiftRequest};
 use upload_records::uploads_container;
 use upload_texts::{Record, Sealed, SealedPart};
 
@@ -64,11 +64,12 @@ pub(crate) fn rolled_forward_record_request(
     let container = uploads_container(alloc, sealed.bucket.as_slice())?;
     let name = Bytes::from_slice(alloc, &id_digits(sealed.id))?;
     let content_type = Bytes::from_slice(alloc, b"application/json")?;
-    Ok(SwiftRequest::PutObject {
+    Ok(SwiftRequest::PutObject(FilePut {
         container,
         name,
         content_type,
         meta: List::new(alloc),
         body: text,
-    })
+        fresh: false,
+    }))
 }

@@ -1,6 +1,7 @@
 //! The calls that settle a store, one function a call: what is sealed is got, and rolled forward.
 ghost use Rattle.std.specs.Prelude.{◌≡◌, ◌<◌, ◌+◌, true, IfOk, IfSome, IsTrue, None, Ok};
 ghost use Rattle.swift_calls.specs.History.{present};
+ghost use Rattle.upload_texts.specs.declared.sealed.Sealed.{Sealed as what_is_sealed};
 ghost use Rattle.upload_texts.specs.Sealed.{has_sealed_text};
 ghost use Rattle.upload_records.specs.Native.{IsSettled, sealed_segments, sealed_sub_manifests};
 ghost use Rattle.account_calls.specs.Calls.{always, Any, Asks};
@@ -196,7 +197,6 @@ fn roll_forward_object<W: Swift>(
 /// Finishes a sealed completion, as [`roll_forward`] does, for a plan that sealed it. After a fault it may be sealed still, so
 /// that the store isn't known to be settled.
 pub fn roll_forward_held<W: Swift>(
-    alloc: Global,
     state: &mut Settled<'_, W>,
     sealed: &Sealed,
 ) -> Result<(), PlanFault>
@@ -211,6 +211,7 @@ pub fn roll_forward_held<W: Swift>(
     ensures rolls { HoldsOrFinished sealed.now (W.history state.old.store.now) (W.history state.new.store.now) }
     ensures finishes { Ensures (W.history state.new.store.now) (IsFinished sealed.now) result }
 {
+    let alloc = state.alloc;
     roll_forward(alloc, state.store, sealed)
 }
 
@@ -250,7 +251,7 @@ fn finish_roll_forward<W: Swift>(
         → Ensures (W.history store.new) (IsFinished sealed.now) result }
 {
     put_rolled_forward_record(alloc, store, sealed)?;
-    delete_rolled_forward_seal(alloc, store, sealed)
+    delete_rolled_forward_seal(alloc, store)
 }
 
 /// Puts the record of a sealed completion, with its moment (Object Storage API v1, "Create or replace object").
@@ -276,18 +277,16 @@ fn put_rolled_forward_record<W: Swift>(
 
 /// Deletes what is sealed, whose object and record are there (Object Storage API v1, "Delete object").
 #[tactic(auto, using(account_calls::proofs::lemmas::SealedNames::gateway_is_container, account_calls::proofs::lemmas::SealedNames::sealed_is_object))]
-fn delete_rolled_forward_seal<W: Swift>(
-    alloc: Global,
-    store: &mut W,
-    sealed: &Sealed,
-) -> Result<(), PlanFault>
-    requires { has_sealed_text sealed.now ≡ true }
-    ensures asks { Asks (always 1) (W.history store.old) (W.history store.new)
-        (HasRecord sealed.now) (Leaves IsSettled) result }
+fn delete_rolled_forward_seal<W: Swift>(alloc: Global, store: &mut W) -> Result<(), PlanFault>
+    ensures asks { (sealed : what_is_sealed) → Asks (always 1) (W.history store.old)
+        (W.history store.new)
+        (HasRecord sealed) (Leaves IsSettled) result }
     ensures keeps { KeepsGateway (W.history store.old) (W.history store.new) }
     ensures done { LeavesClear tt (W.history store.old) (W.history store.new) result }
-    ensures object { KeepsFile (put_object_of sealed.now) (W.history store.old) (W.history store.new) }
-    ensures kept { KeepsFile (put_record_of sealed.now) (W.history store.old) (W.history store.new) }
+    ensures object { (sealed : what_is_sealed) → has_sealed_text sealed ≡ true
+        → KeepsFile (put_object_of sealed) (W.history store.old) (W.history store.new) }
+    ensures kept { (sealed : what_is_sealed) → has_sealed_text sealed ≡ true
+        → KeepsFile (put_record_of sealed) (W.history store.old) (W.history store.new) }
 {
     let container = gateway_container(alloc)?;
     let name = sealed_name(alloc)?;

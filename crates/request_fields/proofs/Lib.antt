@@ -1,4 +1,5 @@
 pub mod Entries
+pub mod Numbers
 pub mod Ranging
 pub mod Sources
 pub mod Tags

@@ -1,5 +1,6 @@
 //! What the headers say of the source of a copy.
-ghost use Rattle.std.specs.Prelude.{◌≡◌, ◌&&◌, option_and_then, option_map, IfOk};
+ghost use Rattle.std.specs.Prelude.{◌≡◌, ◌&&◌, option_and_then, IfOk, IfSome};
+ghost use Rattle.s3_machine.specs.Proper.{IsProperRange};
 ghost use Rattle.std.specs.List.{list_any};
 ghost use Rattle.s3_names.specs.Target.{is_question};
 ghost use Rattle.request_fields.specs.Copies.{names_source, copy_source_text, is_source_condition, is_extended_condition, is_untaken_condition, asks_further, without_slash, place_in, place_named, directive, replaces, has_bad_directive, from_to, copied_range, source_at};
@@ -8,7 +9,7 @@ use crate::conditions::given_source_conditions;
 use crate::ranges::range_of;
 use gate_base::{Bytes, Memory, Pair, cut};
 use http_wire::{has_header, text_of};
-use s3_machine::{Conditions, Range};
+use s3_machine::{Conditions, CopyRange, Range};
 use s3_names::{NameFault, decode, is_bucket, is_key};
 use std::alloc::Global;
 
@@ -18,7 +19,7 @@ pub struct Source {
     pub bucket: Bytes,
     pub key: Bytes,
     /// The first byte and the last that a part is copied from, where it isn't copied from all.
-    pub range: Option<(u64, u64)>,
+    pub range: Option<CopyRange>,
     /// Whether a content type and metadata of its own replace those of the source.
     pub replaces: bool,
     /// What the source has to meet.
@@ -142,17 +143,18 @@ pub fn has_bad_directive(alloc: Global, headers: &[Pair]) -> Result<bool, Memory
     Ok(word.as_slice() != b"REPLACE".as_slice() && word.as_slice() != b"COPY".as_slice())
 }
 
-fn from_to(range: Option<Range>) -> Option<(u64, u64)>
+fn from_to(range: Option<Range>) -> Option<CopyRange>
+    requires { IfSome range IsProperRange }
     ensures { result ≡ option_and_then from_to range }
 {
     match range {
-        Some(Range::FromTo(first, last)) => Some((first, last)),
+        Some(Range::FromTo(first, last)) => Some(CopyRange::of(first, last)),
         _ => None,
     }
 }
 
 /// The first byte and the last that a part is copied from.
-pub fn copied_range(alloc: Global, headers: &[Pair]) -> Result<Option<(u64, u64)>, Memory>
+pub fn copied_range(alloc: Global, headers: &[Pair]) -> Result<Option<CopyRange>, Memory>
     ensures { IfOk result (λ range. range ≡ copied_range headers.now) }
 {
     let text = text_of(alloc, headers, b"x-amz-copy-source-range")?;
@@ -165,7 +167,7 @@ pub fn source_at(
     headers: &[Pair],
     bucket: Bytes,
     key: Bytes,
-    range: Option<(u64, u64)>,
+    range: Option<CopyRange>,
 ) -> Result<Source, Memory>
     requires { range ≡ copied_range headers.now }
     ensures { IfOk result (λ source. source ≡ source_at headers.now (bucket, key)) }

@@ -1,5 +1,7 @@
 //! What a Range header asks for.
-ghost use Rattle.std.specs.Prelude.{◌≡◌, IfOk, option_map};
+ghost use Rattle.s3_machine.specs.Limits.{range_limit};
+ghost use Rattle.std.specs.Prelude.{◌≡◌, ◌<◌, IfOk, IfSome, option_map};
+ghost use Rattle.s3_machine.specs.Proper.{IsProperRange};
 ghost use Rattle.std.specs.List.{list_any};
 ghost use Rattle.request_fields.specs.Ranges.{is_dash, place_of, between, range_by, range_behind, range_of, given_range};
 
@@ -13,13 +15,16 @@ use text_forms::number_of;
 const DIGITS: usize = 18;
 
 fn place_of(text: &[u8]) -> Option<u64>
-    ensures { result ≡ place_of text.now }
+    ensures value { result ≡ place_of text.now }
+    ensures within { IfSome result (λ place. place < range_limit) }
 {
     number_of(text, DIGITS)
 }
 
 fn between(first: Option<u64>, last: Option<u64>) -> Option<Range>
-    ensures { result ≡ between first last }
+    requires { IfSome last (λ place. place < range_limit) }
+    ensures value { result ≡ between first last }
+    ensures proper { IfSome result IsProperRange }
 {
     match (first, last) {
         (Some(first), Some(last)) if first <= last => Some(Range::FromTo(first, last)),
@@ -28,7 +33,9 @@ fn between(first: Option<u64>, last: Option<u64>) -> Option<Range>
 }
 
 fn asked_range_from(first: Option<u64>) -> Option<Range>
-    ensures { result ≡ option_map Range.From first }
+    requires { IfSome first (λ place. place < range_limit) }
+    ensures value { result ≡ option_map Range.From first }
+    ensures proper { IfSome result IsProperRange }
 {
     match first {
         Some(first) => Some(Range::From(first)),
@@ -37,7 +44,9 @@ fn asked_range_from(first: Option<u64>) -> Option<Range>
 }
 
 fn asked_range_of_last(length: Option<u64>) -> Option<Range>
-    ensures { result ≡ option_map Range.Last length }
+    requires { IfSome length (λ count. count < range_limit) }
+    ensures value { result ≡ option_map Range.Last length }
+    ensures proper { IfSome result IsProperRange }
 {
     match length {
         Some(length) => Some(Range::Last(length)),
@@ -47,7 +56,8 @@ fn asked_range_of_last(length: Option<u64>) -> Option<Range>
 
 /// The range of the texts before and behind the dash.
 fn range_by(first: &[u8], behind: &[u8]) -> Option<Range>
-    ensures { result ≡ range_by first.now behind.now }
+    ensures value { result ≡ range_by first.now behind.now }
+    ensures proper { IfSome result IsProperRange }
 {
     match (first, behind) {
         ([], _) => asked_range_of_last(place_of(behind)),
@@ -57,7 +67,8 @@ fn range_by(first: &[u8], behind: &[u8]) -> Option<Range>
 }
 
 fn range_behind(text: &[u8]) -> Option<Range>
-    ensures { result ≡ range_behind text.now }
+    ensures value { result ≡ range_behind text.now }
+    ensures proper { IfSome result IsProperRange }
 {
     if !has_dash(text) {
         return None;
@@ -75,7 +86,8 @@ fn has_dash(text: &[u8]) -> bool
 /// The range that the value of a Range header asks for (RFC 9110, section 14.1.2); none where it is of another form.
 #[tactic(auto, unfolding(crate::specs::Ranges::range_of))]
 pub fn range_of(text: &[u8]) -> Option<Range>
-    ensures { result ≡ range_of text.now }
+    ensures value { result ≡ range_of text.now }
+    ensures proper { IfSome result IsProperRange }
 {
     if text.starts_with(b"bytes=") {
         range_behind(&text[6..])

@@ -1,26 +1,26 @@
 //! What the query of a request for an upload in parts says: the upload, the number of a part, and the number behind which parts are
 //! listed.
-ghost use Rattle.std.specs.Prelude.{◌≡◌, ◌&&◌, ◌||◌, ◌≤◌, is_none, IfOk, IfSome};
-ghost use Rattle.request_fields.specs.Listings.{count_of, has_bad_count};
+ghost use Rattle.std.specs.Prelude.{◌≡◌, ◌&&◌, ◌||◌, is_none, IfOk};
+ghost use Rattle.request_fields.specs.Listings.{has_bad_count};
 ghost use Rattle.request_fields.specs.Query.{text_at};
 ghost use Rattle.request_fields.specs.Uploads.{given_upload, of_part, part_of, given_part_number, given_part_marker, has_bad_part, has_bad_number};
 
 use crate::listings::{asked_count_of, copy_of_query_value, has_bad_count};
 use crate::query::{is_asked, text_at};
 use gate_base::{Bytes, Memory, Pair};
-use s3_machine::GREATEST_PART_NUMBER;
+use s3_machine::{GREATEST_PART_NUMBER, PartNumber};
 use std::alloc::Global;
 use text_forms::number_of;
 
 /// The most digits of the number of a part.
 const DIGITS: usize = 9;
 
-fn of_part(number: Option<u64>) -> Option<u32>
+fn of_part(number: Option<u64>) -> Option<PartNumber>
     ensures { result ≡ of_part number }
 {
     match number {
         Some(number) if 1 <= number && number <= u64::from(GREATEST_PART_NUMBER) => {
-            Some(number as u32)
+            Some(PartNumber::of(number as u32))
         }
         _ => None,
     }
@@ -28,7 +28,7 @@ fn of_part(number: Option<u64>) -> Option<u32>
 
 /// The number of a part that the text writes in 1 to 9 digits.
 #[tactic(auto, unfolding(crate::specs::Uploads::part_of))]
-fn asked_part_number_of(text: &[u8]) -> Option<u32>
+fn asked_part_number_of(text: &[u8]) -> Option<PartNumber>
     ensures { result ≡ part_of text.now }
 {
     of_part(number_of(text, DIGITS))
@@ -42,12 +42,12 @@ pub fn given_upload(alloc: Global, query: &[Pair]) -> Result<Bytes, Memory>
 }
 
 /// The number of the part.
-pub fn given_part_number(query: &[Pair]) -> u32
+pub fn given_part_number(query: &[Pair]) -> PartNumber
     ensures { result ≡ given_part_number query.now }
 {
     match asked_part_number_of(text_at(query, b"partNumber")) {
         Some(number) => number,
-        None => 1,
+        None => PartNumber::of(1),
     }
 }
 

@@ -8,8 +8,9 @@ use crate::BodyFault;
 use crate::key::keys;
 use crate::objects::{delete_xml_object, delete_xml_quiet};
 use crate::root_end::{request_xml_closing, request_xml_fault};
-use gate_base::{Bytes, Copying, List, Memory};
+use gate_base::{Copying, List, Memory};
 use s3_machine::MOST_KEYS;
+use s3_names::Key;
 use std::alloc::Global;
 use xml_forms::opening;
 
@@ -17,7 +18,7 @@ use xml_forms::opening;
 #[derive(Debug, Drop)]
 pub struct Deletes {
     /// The keys, in the body's order.
-    pub keys: List<Bytes>,
+    pub keys: List<Key>,
     /// Whether the reply says nothing of what was deleted.
     pub quiet: bool,
 }

@@ -5,11 +5,11 @@ ghost use Rattle.s3_bodies.specs.declared.key_text.Piece.{Piece};
 
 use crate::key_text::{Piece, next_delete_xml_piece};
 use gate_base::{Bytes, List, Memory};
-use s3_names::is_key;
+use s3_names::{Key, is_key};
 use std::alloc::Global;
 
 /// The keys that texts name, if each of them names one.
-pub(crate) fn keys(alloc: Global, texts: &[&[u8]]) -> Result<Option<List<Bytes>>, Memory>
+pub(crate) fn keys(alloc: Global, texts: &[&[u8]]) -> Result<Option<List<Key>>, Memory>
     ensures { IfOk result (λ keys. AreNamed (texts_of texts.now) keys) }
 {
     let mut keys = List::new(alloc);
@@ -22,13 +22,13 @@ pub(crate) fn keys(alloc: Global, texts: &[&[u8]]) -> Result<Option<List<Bytes>>
     Ok(Some(keys))
 }
 
-fn key_of_delete_xml_text(alloc: Global, text: &[u8]) -> Result<Option<Bytes>, Memory>
+fn key_of_delete_xml_text(alloc: Global, text: &[u8]) -> Result<Option<Key>, Memory>
     ensures { IfOk result (λ key. IsNamed text.now key) }
 {
     match meaning_of_delete_xml_text(alloc, text)? {
         Some(bytes) => {
             if is_key(bytes.as_slice()) {
-                Ok(Some(bytes))
+                Ok(Some(Key::of(bytes)))
             } else {
                 Ok(None)
             }

@@ -1,4 +1,6 @@
 pub mod Budget
 pub mod Digests
+pub mod Holding
+pub mod Locks
 pub mod Rereads
 pub mod lemmas

@@ -13,40 +13,53 @@ use Rattle.s3_names.specs.declared.acl.Acl.{Acl}
 use Rattle.s3_machine.specs.declared.code.Code.TheVariants.{NoSuchKey, NotImplemented}
 use Rattle.s3_machine.specs.declared.operation.Label.{Label}
 use Rattle.s3_machine.specs.declared.operation.Settings.{Settings}
-use Rattle.s3_machine.specs.declared.operation.Op.TheVariants.{PutObject, GetObject, DeleteObject}
+use Rattle.s3_machine.specs.Ops.{PutObject, GetObject, DeleteObject}
 use Rattle.s3_machine.specs.declared.operation.Reply.{Reply}
-use Rattle.s3_machine.specs.declared.operation.Reply.TheVariants as reply
+use Rattle.s3_machine.specs.Replies as reply
 use Rattle.s3_machine.specs.declared.operation.Reply.TheVariants.{Refused, Stored, Gone}
 use Rattle.s3_machine.specs.declared.reading.Conditions.{Conditions}
 use Rattle.s3_machine.specs.declared.reading.Range.{Range}
 use Rattle.s3_machine.specs.Conditions.{no_conditions}
+use Rattle.s3_machine.specs.declared.code.Code.{Code}
+use Rattle.s3_machine.specs.declared.only_if.OnlyIf.{OnlyIf}
 use Rattle.s3_machine.specs.State.{Object, Bucket, State}
-use Rattle.s3_machine.specs.Step.{Outcome, S3Step, unless, gives, in_bucket_by, in_object_by, in_readable, is_other_acl, puts, deletes, reads, head_of, got, whole, new_object, put_object, drop_object}
+use Rattle.s3_machine.specs.Step.{Outcome, S3Step, unless, unless_refused, refusal_in, gives, in_bucket_by, in_object_by, in_readable, is_other_acl, puts, deletes, reads, head_of, got, whole, new_object, put_object, drop_object}
 
 -- a change of a bucket that is there
 changed : (old : State) (bucket : List ℕ) (f : Bucket → Bucket) (b : Bucket) → get old bucket ≡ Some b → get (adjust bucket f old) bucket ≡ Some (f b)
 changed old bucket f b is = at_adjust by_name bucket f old ∙ ap (option_map f) is
 
-stored_in : (old new : State) (bucket key : List ℕ) (acl : Option Acl) (o : Object) (etag : List ℕ) (b : Bucket) (t : Bool)
-    → Stored etag ≡ (unless t NotImplemented old (gives (Stored o.etag) (adjust bucket (put_object key o) old))).reply → new ≡ (unless t NotImplemented old (gives (Stored o.etag) (adjust bucket (put_object key o) old))).state
-    → new ≡ adjust bucket (put_object key o) old
-stored_in old new bucket key acl o etag b true e f = cc
-stored_in old new bucket key acl o etag b false e f = f
+-- a put as it ends where nothing else refuses it
+abbrev put_end : State → List ℕ → List ℕ → Object → Bool → Option Code → Outcome
+put_end old bucket key o t held = unless t NotImplemented old (unless_refused held old (gives (Stored o.etag) (adjust bucket (put_object key o) old)))
+
+stored_in : (old new : State) (bucket key : List ℕ) (o : Object) (etag : List ℕ) (t : Bool) (held : Option Code)
+    → Stored etag ≡ (put_end old bucket key o t held).reply → new ≡ (put_end old bucket key o t held).state → new ≡ adjust bucket (put_object key o) old
+stored_in old new bucket key o etag true held e f = cc
+stored_in old new bucket key o etag false None e f = f
+stored_in old new bucket key o etag false (Some code) e f = cc
+
+gone_in : (old new : State) (bucket key : List ℕ) (held : Option Code) → Gone ≡ (unless_refused held old (gives Gone (adjust bucket (drop_object key) old))).reply
+    → new ≡ (unless_refused held old (gives Gone (adjust bucket (drop_object key) old))).state → new ≡ adjust bucket (drop_object key) old
+gone_in old new bucket key None e f = f
+gone_in old new bucket key (Some code) e f = cc
 
 -- what a put that was stored leaves in its bucket
-left_by_put : (old new : State) (bucket key : List ℕ) (acl : Option Acl) (o : Object) (etag : List ℕ) (v : Option Bucket) → get old bucket ≡ v
-    → Stored etag ≡ (in_bucket_by v old (puts old bucket key acl o)).reply → new ≡ (in_bucket_by v old (puts old bucket key acl o)).state
+pub left_by_put : (old new : State) (bucket key : List ℕ) (acl : Option Acl) (o : Object) (etag : List ℕ) (only_if : OnlyIf) (v : Option Bucket) → get old bucket ≡ v
+    → Stored etag ≡ (in_bucket_by v old (puts old bucket key acl o only_if)).reply → new ≡ (in_bucket_by v old (puts old bucket key acl o only_if)).state
     → (b : Bucket) × (get new bucket ≡ Some b) × (get b.objects key ≡ Some o)
-left_by_put old new bucket key acl o etag None is e f = cc
-left_by_put old new bucket key acl o etag (Some b) is e f =
-    let goes = stored_in old new bucket key acl o etag b (is_other_acl acl b.acl) e f in
+left_by_put old new bucket key acl o etag only_if None is e f = cc
+left_by_put old new bucket key acl o etag only_if (Some b) is e f =
+    let goes = stored_in old new bucket key o etag (is_other_acl acl b.acl) (refusal_in only_if key b) e f in
     (put_object key o b, ap (λ s. get s bucket) goes ∙ changed old bucket (put_object key o) b is, at_insert by_name b.objects key o)
 
-left_by_delete : (old new : State) (bucket key : List ℕ) (v : Option Bucket) → get old bucket ≡ v
-    → Gone ≡ (in_bucket_by v old (deletes old bucket key)).reply → new ≡ (in_bucket_by v old (deletes old bucket key)).state
+left_by_delete : (old new : State) (bucket key : List ℕ) (only_if : OnlyIf) (v : Option Bucket) → get old bucket ≡ v
+    → Gone ≡ (in_bucket_by v old (deletes old bucket key only_if)).reply → new ≡ (in_bucket_by v old (deletes old bucket key only_if)).state
     → (b : Bucket) × (get new bucket ≡ Some b) × (get b.objects key ≡ None)
-left_by_delete old new bucket key None is e f = cc
-left_by_delete old new bucket key (Some b) is e f = (drop_object key b, ap (λ s. get s bucket) f ∙ changed old bucket (drop_object key) b is, at_remove by_name b.objects key)
+left_by_delete old new bucket key only_if None is e f = cc
+left_by_delete old new bucket key only_if (Some b) is e f =
+    let goes = gone_in old new bucket key (refusal_in only_if key b) e f in
+    (drop_object key b, ap (λ s. get s bucket) goes ∙ changed old bucket (drop_object key) b is, at_remove by_name b.objects key)
 
 -- what an owner is answered
 owner_reads : (old : State) (bucket key : List ℕ) (caller : Caller) (answer : Object → Reply) (b : Bucket) (v : Option Object) → caller ≡ Owner
@@ -59,19 +72,19 @@ owner_reads old bucket key caller answer b v owner found is =
 got_whole : (o : Object) → got None no_conditions o ≡ whole o
 got_whole o = ap (λ bytes. reply.Object (head_of o) 0 (length o.bytes) false bytes) (take-length o.bytes)
 
-pub get_after_put : (settings : Settings) (old new after : State) (bucket key content_type body etag : List ℕ) (acl : Option Acl) (meta : List Pair) (first second : Label) (reply : Reply)
-    → S3Step settings old (PutObject bucket key acl content_type meta body) first (Stored etag) new
+pub get_after_put : (settings : Settings) (old new after : State) (bucket key content_type body etag : List ℕ) (acl : Option Acl) (meta : List Pair) (only_if : OnlyIf) (first second : Label) (reply : Reply)
+    → S3Step settings old (PutObject bucket key acl content_type meta body only_if) first (Stored etag) new
     → second.caller ≡ Owner → S3Step settings new (GetObject bucket key None no_conditions) second reply after
     → reply ≡ whole (new_object first.moment content_type meta body)
-get_after_put settings old new after bucket key content_type body etag acl meta first second reply put owner goes =
+get_after_put settings old new after bucket key content_type body etag acl meta only_if first second reply put owner goes =
     let o : Object = new_object first.moment content_type meta body in
-    let left = left_by_put old new bucket key acl o etag (get old bucket) refl put.replies put.goes in
+    let left = left_by_put old new bucket key acl o etag only_if (get old bucket) refl put.replies put.goes in
     goes.replies ∙ ap (λ (w : Outcome). w.reply) (owner_reads new bucket key second.caller (got None no_conditions) left.0 (Some o) owner left.1 left.2) ∙ got_whole o
 
-pub get_after_delete : (settings : Settings) (old new after : State) (bucket key : List ℕ) (range : Option Range) (conditions : Conditions) (first second : Label) (reply : Reply)
-    → S3Step settings old (DeleteObject bucket key) first Gone new
+pub get_after_delete : (settings : Settings) (old new after : State) (bucket key : List ℕ) (range : Option Range) (conditions : Conditions) (only_if : OnlyIf) (first second : Label) (reply : Reply)
+    → S3Step settings old (DeleteObject bucket key only_if) first Gone new
     → second.caller ≡ Owner → S3Step settings new (GetObject bucket key range conditions) second reply after
     → reply ≡ Refused NoSuchKey
-get_after_delete settings old new after bucket key range conditions first second reply deleted owner goes =
-    let left = left_by_delete old new bucket key (get old bucket) refl deleted.replies deleted.goes in
+get_after_delete settings old new after bucket key range conditions only_if first second reply deleted owner goes =
+    let left = left_by_delete old new bucket key only_if (get old bucket) refl deleted.replies deleted.goes in
     goes.replies ∙ ap (λ (w : Outcome). w.reply) (owner_reads new bucket key second.caller (got range conditions) left.0 None owner left.1 left.2)

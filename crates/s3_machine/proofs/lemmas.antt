@@ -2,3 +2,4 @@ pub mod Reading
 pub mod StepLemmas
 pub mod CopyConditions
 pub mod Starts
+pub mod WriteConditions

@@ -2,7 +2,7 @@
 -- part is copied of. Source: Amazon S3 API Reference, "CopyObject" and "UploadPartCopy"; that a copy keeps its source's ETag, and that
 -- of conditions which contradict one another each counts as for a GET, is this profile's.
 use Rattle.std.specs.Prelude.{◌+◌, ◌-◌, ℕ, Bool, true, false, ◌&&◌, nat_lt, bytes_eq, List, Option, Some, None}
-use Rattle.s3_machine.specs.declared.operation.Replaced.{Replaced}
+use Rattle.s3_machine.specs.declared.operation.Described.{Described}
 use Rattle.s3_machine.specs.declared.operation.ObjectHead.{ObjectHead}
 use Rattle.s3_machine.specs.declared.reading.Conditions.{Conditions}
 use Rattle.s3_machine.specs.declared.reading.Judged.{Judged}
@@ -23,12 +23,12 @@ abbrev pub may_be_copied : Conditions → ObjectHead → Bool
 may_be_copied conditions head = gives_bytes (judged None conditions head)
 
 -- the copy of an object: with its bytes and its ETag, and with its content type and metadata or those in their place
-abbrev pub copied : Option Replaced → ℕ → Object → Object
+abbrev pub copied : Option Described → ℕ → Object → Object
 copied None moment o = record o { modified = moment }
 copied (Some r) moment o = record o { content_type = r.content_type; meta = r.meta; modified = moment }
 
 -- an object would be copied onto itself, and nothing of it replaced
-abbrev pub is_onto_itself : List ℕ → List ℕ → List ℕ → List ℕ → Option Replaced → Bool
+abbrev pub is_onto_itself : List ℕ → List ℕ → List ℕ → List ℕ → Option Described → Bool
 is_onto_itself bucket key from_bucket from_key None = bytes_eq bucket from_bucket && bytes_eq key from_key
 is_onto_itself bucket key from_bucket from_key (Some r) = false
 

@@ -3,11 +3,16 @@ pub mod Conditions
 pub mod Copies
 pub mod ETag
 pub mod Finish
+pub mod Holding
 pub mod Items
 pub mod Laws
 pub mod Limits
+pub mod OnlyIf
+pub mod Ops
+pub mod Proper
 pub mod Ranges
 pub mod Reading
+pub mod Replies
 pub mod Shown
 pub mod State
 pub mod Step

@@ -1,4 +1,8 @@
 -- What is asked of a reply, so that it has a page. Source: this profile.
+use Rattle.s3_machine.specs.declared.operation.Reply.TheVariants.{OfObjects, OfUploads}
+use Rattle.s3_machine.specs.declared.operation.Reply.TheVariants as reply_as
+use Rattle.s3_machine.specs.declared.operation.ObjectsReply.TheVariants as objects_reply
+use Rattle.s3_machine.specs.declared.operation.UploadsReply.TheVariants as uploads_reply
 use Rattle.std.specs.Prelude.{◌<◌, ◌≤◌, ◌+◌, ◌^◌, ℕ, Bool, IsTrue, IfSome}
 use Rattle.std.specs.List.{All}
 use Rattle.gate_base.specs.Told.{moment_limit}
@@ -9,26 +13,7 @@ use Rattle.s3_machine.specs.declared.items.PartItem.{PartItem}
 use Rattle.s3_machine.specs.declared.items.UploadItem.{UploadItem}
 use Rattle.s3_machine.specs.declared.operation.ObjectHead.{ObjectHead}
 use Rattle.s3_machine.specs.declared.operation.Reply.{Reply}
-use Rattle.s3_machine.specs.declared.operation.Reply.TheVariants.{
-  Refused,
-  Memory,
-  Done,
-  Gone,
-  NotModified,
-  Buckets,
-  Made,
-  Location,
-  AclOf,
-  Objects,
-  Uploads,
-  Stored,
-  Object,
-  Started,
-  Parts,
-  Completed,
-  Deleted,
-  Copied,
-}
+use Rattle.s3_machine.specs.declared.operation.Reply.TheVariants.{Refused, Memory, Done, Gone, NotModified, Stored}
 
 -- a moment that has a date
 abbrev pub IsDated : ℕ → Type 0
@@ -66,16 +51,16 @@ IsShowable Memory = Unit {0}
 IsShowable Done = Unit {0}
 IsShowable Gone = Unit {0}
 IsShowable (NotModified head) = IsDated head.modified
-IsShowable (Buckets items) = All IsShownBucket items
-IsShowable (Made bucket) = Unit {0}
-IsShowable (Location region) = Unit {0}
-IsShowable (AclOf acl) = Unit {0}
-IsShowable (Objects bucket asked items truncated) = All IsShownItem items
-IsShowable (Uploads bucket prefix key_marker id_marker max url items truncated) = All IsShownUpload items
+IsShowable (OfObjects (objects_reply.Buckets items)) = All IsShownBucket items
+IsShowable (OfObjects (objects_reply.Made bucket)) = Unit {0}
+IsShowable (OfObjects (objects_reply.Location region)) = Unit {0}
+IsShowable (OfObjects (objects_reply.AclOf acl)) = Unit {0}
+IsShowable (OfObjects (objects_reply.Objects page)) = All IsShownItem page.items
+IsShowable (OfUploads (uploads_reply.Uploads page)) = All IsShownUpload page.items
 IsShowable (Stored etag) = Unit {0}
-IsShowable (Object head from length partial body) = IsShown head from length partial
-IsShowable (Started bucket key id) = Unit {0}
-IsShowable (Parts bucket key id marker max items truncated) = All IsShownPart items
-IsShowable (Completed bucket key etag) = Unit {0}
-IsShowable (Deleted keys quiet) = Unit {0}
-IsShowable (Copied part etag modified) = IsDated modified
+IsShowable (reply_as.Object object) = IsShown object.head object.from object.length object.partial
+IsShowable (OfUploads (uploads_reply.Started started)) = Unit {0}
+IsShowable (OfUploads (uploads_reply.Parts page)) = All IsShownPart page.items
+IsShowable (OfUploads (uploads_reply.Completed completed)) = Unit {0}
+IsShowable (OfObjects (objects_reply.Deleted deleted)) = Unit {0}
+IsShowable (reply_as.Copied copied) = IsDated copied.modified

@@ -2,13 +2,12 @@
 -- the order given, and a refused step leaves the state. Source: Amazon S3 API Reference and this profile.
 use Rattle.std.specs.Prelude.{◌≡◌, ◌<◌, ◌≤◌, ◌^◌, ◌==◌, ℕ, nat_eq, nat_lt, bytes_eq, Bool, true, false, not, if◌then◌else◌, List, [], ◌∷◌, map, length, Option, Some, None, IfSome}
 use Rattle.std.specs.List.{list_all}
-use Rattle.std.specs.Option.{unwrap_or}
+use Rattle.std.specs.Option.{option_map, unwrap_or}
 use Rattle.std.specs.FinMap.{entries, get, insert, remove, empty, len}
 use Rattle.gate_base.specs.declared.caller.Caller.{Caller}
 use Rattle.gate_base.specs.declared.caller.Caller.TheVariants.{Owner, Anonymous}
 use Rattle.gate_base.specs.declared.page.Pair.{Pair}
 use Rattle.gate_base.specs.Maps.{adjust, Names}
-use Rattle.gate_base.specs.Told.{moment_limit}
 use Rattle.s3_names.specs.declared.acl.Acl.{Acl}
 use Rattle.s3_names.specs.declared.acl.Acl.TheVariants.{Private, PublicRead}
 use Rattle.s3_names.specs.Bucket.{is_bucket}
@@ -44,7 +43,9 @@ use Rattle.s3_machine.specs.declared.reading.Span.{Span}
 use Rattle.s3_machine.specs.declared.operation.Label.{Label}
 use Rattle.s3_machine.specs.declared.operation.Settings.{Settings}
 use Rattle.s3_machine.specs.declared.operation.Op.{Op}
-use Rattle.s3_machine.specs.declared.operation.Op.TheVariants.{
+use Rattle.s3_machine.specs.declared.operation.Op.TheVariants.{GetObject, OnObjects, OnUploads, OnCopies}
+use Rattle.s3_machine.specs.declared.operation.ObjectsOp.{ObjectsOp}
+use Rattle.s3_machine.specs.declared.operation.ObjectsOp.TheVariants.{
   ListBuckets,
   CreateBucket,
   DeleteBucket,
@@ -54,29 +55,26 @@ use Rattle.s3_machine.specs.declared.operation.Op.TheVariants.{
   PutBucketAcl,
   ListObjects,
   PutObject,
-  GetObject,
   HeadObject,
   DeleteObject,
-  GetObjectAcl,
-  ListUploads,
-  CreateUpload,
-  UploadPart,
-  ListParts,
-  CompleteUpload,
-  AbortUpload,
   DeleteObjects,
-  CopyObject,
-  CopyPart,
+  GetObjectAcl,
 }
+use Rattle.s3_machine.specs.declared.operation.UploadsOp.{UploadsOp}
+use Rattle.s3_machine.specs.declared.operation.UploadsOp.TheVariants.{ListUploads, CreateUpload, UploadPart, ListParts, CompleteUpload, AbortUpload}
+use Rattle.s3_machine.specs.declared.operation.CopiesOp.{CopiesOp}
+use Rattle.s3_machine.specs.declared.operation.CopiesOp.TheVariants.{CopyObject, CopyPart}
 use Rattle.s3_machine.specs.declared.operation.Listed.{Listed}
 use Rattle.s3_machine.specs.declared.operation.ObjectHead.{ObjectHead}
-use Rattle.s3_machine.specs.declared.operation.Replaced.{Replaced}
+use Rattle.s3_machine.specs.declared.operation.Described.{Described}
 use Rattle.s3_machine.specs.declared.operation.Reply.{Reply}
-use Rattle.s3_machine.specs.declared.operation.Reply.TheVariants as reply
+use Rattle.s3_machine.specs.Replies as reply
 use Rattle.s3_machine.specs.Copies.{copied, is_onto_itself, has_last, copied_span, may_be_copied}
 use Rattle.s3_machine.specs.ETag.{body_etag}
 use Rattle.s3_machine.specs.Items.{items}
-use Rattle.s3_machine.specs.Limits.{body_limit, is_content_type, is_listing_text, is_proper_meta, most_body_bytes, most_items, most_keys, range_limit}
+use Rattle.s3_machine.specs.declared.only_if.OnlyIf.{OnlyIf}
+use Rattle.s3_machine.specs.OnlyIf.{refusal}
+use Rattle.s3_machine.specs.Limits.{body_limit}
 use Rattle.s3_machine.specs.Reading.{judged, taken}
 use Rattle.s3_machine.specs.State.{Object, Part, Upload, Bucket, State}
 use Rattle.s3_machine.specs.Finish.{finished}
@@ -116,6 +114,11 @@ refuses code state = gives (reply.Refused code) state
 abbrev pub unless : Bool → Code → State → Outcome → Outcome
 unless true code old rest = refuses code old
 unless false code old rest = rest
+
+-- a refusal with the code, where there is one, and else the rest
+abbrev pub unless_refused : Option Code → State → Outcome → Outcome
+unless_refused None old rest = rest
+unless_refused (Some code) old rest = refuses code old
 
 -- ---- what is looked up
 
@@ -211,9 +214,18 @@ is_other_acl (Some Private) PublicRead = true
 is_other_acl (Some PublicRead) Private = true
 is_other_acl (Some PublicRead) PublicRead = false
 
+abbrev pub etag_of_object : Object → List ℕ
+etag_of_object o = o.etag
+
+-- why a write of the key in a bucket is refused by its condition, if it is
+abbrev pub refusal_in : OnlyIf → List ℕ → Bucket → Option Code
+refusal_in only_if key b = refusal only_if (option_map etag_of_object (get b.objects key))
+
 -- PutObject in a bucket: the object in place of what stands under the key
-abbrev pub puts : State → List ℕ → List ℕ → Option Acl → Object → Bucket → Outcome
-puts old bucket key acl o b = unless (is_other_acl acl b.acl) NotImplemented old (gives (reply.Stored o.etag) (adjust bucket (put_object key o) old))
+abbrev pub puts : State → List ℕ → List ℕ → Option Acl → Object → OnlyIf → Bucket → Outcome
+puts old bucket key acl o only_if b =
+    unless (is_other_acl acl b.acl) NotImplemented old
+    (unless_refused (refusal_in only_if key b) old (gives (reply.Stored o.etag) (adjust bucket (put_object key o) old)))
 
 abbrev pub head_of : Object → ObjectHead
 head_of o = record { etag = o.etag; modified = o.modified; size = length o.bytes; content_type = o.content_type; meta = o.meta }
@@ -242,8 +254,8 @@ abbrev pub reads : State → (Object → Reply) → Object → Outcome
 reads old answer o = gives (answer o) old
 
 -- DeleteObject in a bucket, also where nothing stands under the key
-abbrev pub deletes : State → List ℕ → List ℕ → Bucket → Outcome
-deletes old bucket key b = gives reply.Gone (adjust bucket (drop_object key) old)
+abbrev pub deletes : State → List ℕ → List ℕ → OnlyIf → Bucket → Outcome
+deletes old bucket key only_if b = unless_refused (refusal_in only_if key b) old (gives reply.Gone (adjust bucket (drop_object key) old))
 
 -- a bucket without the objects of these keys
 abbrev pub drop_objects : List (List ℕ) → Bucket → Bucket
@@ -322,24 +334,28 @@ lists_parts old bucket key id marker max u = gives (parts_reply bucket key id ma
 abbrev pub aborts : State → List ℕ → List ℕ → Upload → Outcome
 aborts old bucket id u = gives reply.Gone (adjust bucket (drop_upload id) old)
 
--- CompleteUpload of an open upload, by the parts that its list chose
-abbrev pub completes_chosen : Settings → State → List ℕ → List ℕ → List Listed → ℕ → Upload → Option (List Part) → Outcome
-completes_chosen settings old bucket id list moment u None = refuses InvalidPart old
-completes_chosen settings old bucket id list moment u (Some parts) =
+-- CompleteUpload of an open upload, by the parts that its list chose, and by why its condition refuses it, if it does
+abbrev pub completes_chosen : Settings → State → List ℕ → List ℕ → List Listed → Option Code → ℕ → Upload → Option (List Part) → Outcome
+completes_chosen settings old bucket id list held moment u None = refuses InvalidPart old
+completes_chosen settings old bucket id list held moment u (Some parts) =
     unless (is_too_small settings.least_part parts) EntityTooSmall old
-    (gives (reply.Completed bucket u.key (upload_etag (map etag_in parts))) (finished (completed bucket id u list parts moment) old))
+    (unless_refused held old
+    (gives (reply.Completed bucket u.key (upload_etag (map etag_in parts))) (finished (completed bucket id u list parts moment) old)))
 
-abbrev pub completes_open : Settings → State → List ℕ → List ℕ → List Listed → ℕ → Upload → Outcome
-completes_open settings old bucket id list moment u =
-    unless (not (rises list)) InvalidPartOrder old (completes_chosen settings old bucket id list moment u (chosen u.parts list))
+abbrev pub completes_open : Settings → State → List ℕ → List ℕ → List Listed → Option Code → ℕ → Upload → Outcome
+completes_open settings old bucket id list held moment u =
+    unless (not (rises list)) InvalidPartOrder old (completes_chosen settings old bucket id list held moment u (chosen u.parts list))
 
--- CompleteUpload in a bucket, by the ETag with which the same completion is kept: it is answered again, and changes nothing
-abbrev pub completes_by : Option (List ℕ) → Settings → State → List ℕ → List ℕ → List ℕ → List Listed → ℕ → Bucket → Outcome
-completes_by (Some etag) settings old bucket key id list moment b = gives (reply.Completed bucket key etag) old
-completes_by None settings old bucket key id list moment b = in_upload old key id (completes_open settings old bucket id list moment) b
+-- CompleteUpload in a bucket, by the ETag with which the same completion is kept: it is answered again, whatever its condition, and
+-- changes nothing
+abbrev pub completes_by : Option (List ℕ) → Settings → State → List ℕ → List ℕ → List ℕ → List Listed → OnlyIf → ℕ → Bucket → Outcome
+completes_by (Some etag) settings old bucket key id list only_if moment b = gives (reply.Completed bucket key etag) old
+completes_by None settings old bucket key id list only_if moment b =
+    in_upload old key id (completes_open settings old bucket id list (refusal_in only_if key b) moment) b
 
-abbrev pub completes : Settings → State → List ℕ → List ℕ → List ℕ → List Listed → ℕ → Bucket → Outcome
-completes settings old bucket key id list moment b = completes_by (kept_as key list (get b.kept id)) settings old bucket key id list moment b
+abbrev pub completes : Settings → State → List ℕ → List ℕ → List ℕ → List Listed → OnlyIf → ℕ → Bucket → Outcome
+completes settings old bucket key id list only_if moment b =
+    completes_by (kept_as key list (get b.kept id)) settings old bucket key id list only_if moment b
 
 -- ---- copies
 
@@ -352,17 +368,17 @@ abbrev pub in_source : State → List ℕ → List ℕ → Conditions → (Objec
 in_source old from_bucket from_key conditions f b =
     in_bucket old from_bucket (λ from. in_object_by (get from.objects from_key) old (copied_under conditions old f))
 
--- CopyObject of an object: its copy in place of what stands under the key
-abbrev pub copies_object : State → List ℕ → List ℕ → List ℕ → List ℕ → Option Replaced → ℕ → Object → Outcome
-copies_object old bucket key from_bucket from_key replaced moment o =
+-- CopyObject of an object: its copy in place of what stands under the key, but where its condition refuses it
+abbrev pub copies_object : State → List ℕ → List ℕ → List ℕ → List ℕ → Option Described → Option Code → ℕ → Object → Outcome
+copies_object old bucket key from_bucket from_key replaced held moment o =
     unless (is_onto_itself bucket key from_bucket from_key replaced) InvalidRequest old
-    (gives (reply.Copied false o.etag moment) (adjust bucket (put_object key (copied replaced moment o)) old))
+    (unless_refused held old (gives (reply.Copied false o.etag moment) (adjust bucket (put_object key (copied replaced moment o)) old)))
 
 -- CopyObject in a bucket
-abbrev pub copies : State → List ℕ → List ℕ → Option Acl → List ℕ → List ℕ → Option Replaced → Conditions → ℕ → Bucket → Outcome
-copies old bucket key acl from_bucket from_key replaced conditions moment b =
+abbrev pub copies : State → List ℕ → List ℕ → Option Acl → List ℕ → List ℕ → Option Described → Conditions → OnlyIf → ℕ → Bucket → Outcome
+copies old bucket key acl from_bucket from_key replaced conditions only_if moment b =
     unless (is_other_acl acl b.acl) NotImplemented old
-    (in_source old from_bucket from_key conditions (copies_object old bucket key from_bucket from_key replaced moment) b)
+    (in_source old from_bucket from_key conditions (copies_object old bucket key from_bucket from_key replaced (refusal_in only_if key b) moment) b)
 
 -- CopyPart of these bytes: the part in place of what stands under its number
 abbrev pub puts_copy : State → List ℕ → List ℕ → ℕ → Part → Outcome
@@ -382,38 +398,58 @@ copies_part settings old bucket key id number from_bucket from_key range conditi
 
 -- ---- the step
 
+-- the step of an operation on buckets and objects
+abbrev pub objects_step : Settings → State → ObjectsOp → Label → Outcome
+objects_step settings old ListBuckets label = gives (reply.Buckets (bucket_items old)) old
+objects_step settings old (CreateBucket made) label = creates (get old made.bucket) old made.bucket made.acl label.moment
+objects_step settings old (DeleteBucket bucket) label = in_bucket old bucket (drops old bucket)
+objects_step settings old (HeadBucket bucket) label = in_bucket old bucket (shows old label.caller)
+objects_step settings old (GetLocation bucket) label = in_bucket old bucket (locates settings old)
+objects_step settings old (GetBucketAcl bucket) label = in_bucket old bucket (shows_acl old)
+objects_step settings old (PutBucketAcl set) label = in_bucket old set.bucket (sets_acl old set.bucket set.acl)
+objects_step settings old (ListObjects list) label = in_bucket old list.bucket (lists old label.caller list.bucket list.asked)
+objects_step settings old (PutObject put) label =
+    in_bucket old put.bucket (puts old put.bucket put.key put.acl (new_object label.moment put.content.content_type put.content.meta put.content.body) put.only_if)
+objects_step settings old (HeadObject read) label =
+    in_bucket old read.bucket (in_readable old label.caller read.key (reads old (headed read.range read.conditions)))
+objects_step settings old (DeleteObject deletion) label =
+    in_bucket old deletion.bucket (deletes old deletion.bucket deletion.key deletion.only_if)
+objects_step settings old (DeleteObjects deletion) label =
+    in_bucket old deletion.bucket (deletes_all old deletion.bucket deletion.keys deletion.quiet)
+objects_step settings old (GetObjectAcl name) label = in_bucket old name.bucket (shows_object_acl old name.key)
+
+-- the step of an operation on uploads in parts, with the id that a new upload gets
+abbrev pub uploads_step : Settings → State → UploadsOp → Label → ℕ → Outcome
+uploads_step settings old (ListUploads list) label id =
+    in_bucket old list.bucket
+    (lists_uploads old list.bucket list.asked.prefix list.asked.key_marker list.asked.id_marker list.asked.max list.asked.url)
+uploads_step settings old (CreateUpload start) label id =
+    in_bucket old start.bucket (starts old start.bucket start.key start.acl (new_upload start.key start.described.content_type start.described.meta label.moment) id)
+uploads_step settings old (UploadPart part) label id =
+    in_bucket old part.bucket (in_upload old part.key part.id (puts_part old part.bucket part.id part.number (new_part label.moment part.body)))
+uploads_step settings old (ListParts list) label id =
+    in_bucket old list.bucket (in_upload old list.key list.id (lists_parts old list.bucket list.key list.id list.asked.marker list.asked.max))
+uploads_step settings old (CompleteUpload done) label id =
+    in_bucket old done.bucket (completes settings old done.bucket done.key done.id done.list done.only_if label.moment)
+uploads_step settings old (AbortUpload upload) label id =
+    in_bucket old upload.bucket (in_upload old upload.key upload.id (aborts old upload.bucket upload.id))
+
+-- the step of a copy
+abbrev pub copies_step : Settings → State → CopiesOp → Label → Outcome
+copies_step settings old (CopyObject copy) label =
+    in_bucket old copy.bucket
+    (copies old copy.bucket copy.key copy.acl copy.from_bucket copy.from_key copy.replaced copy.conditions copy.only_if label.moment)
+copies_step settings old (CopyPart copy) label =
+    in_bucket old copy.bucket
+    (copies_part settings old copy.bucket copy.key copy.id copy.number copy.from_bucket copy.from_key copy.range copy.conditions label.moment)
+
 -- the step of each operation, with the id that a new upload gets
 abbrev pub step : Settings → State → Op → Label → ℕ → Outcome
-step settings old ListBuckets label id = gives (reply.Buckets (bucket_items old)) old
-step settings old (CreateBucket bucket acl) label id = creates (get old bucket) old bucket acl label.moment
-step settings old (DeleteBucket bucket) label id = in_bucket old bucket (drops old bucket)
-step settings old (HeadBucket bucket) label id = in_bucket old bucket (shows old label.caller)
-step settings old (GetLocation bucket) label id = in_bucket old bucket (locates settings old)
-step settings old (GetBucketAcl bucket) label id = in_bucket old bucket (shows_acl old)
-step settings old (PutBucketAcl bucket acl) label id = in_bucket old bucket (sets_acl old bucket acl)
-step settings old (ListObjects bucket asked) label id = in_bucket old bucket (lists old label.caller bucket asked)
-step settings old (PutObject bucket key acl content_type meta body) label id =
-    in_bucket old bucket (puts old bucket key acl (new_object label.moment content_type meta body))
-step settings old (GetObject bucket key range conditions) label id =
-    in_bucket old bucket (in_readable old label.caller key (reads old (got range conditions)))
-step settings old (HeadObject bucket key range conditions) label id =
-    in_bucket old bucket (in_readable old label.caller key (reads old (headed range conditions)))
-step settings old (DeleteObject bucket key) label id = in_bucket old bucket (deletes old bucket key)
-step settings old (GetObjectAcl bucket key) label id = in_bucket old bucket (shows_object_acl old key)
-step settings old (ListUploads bucket prefix key_marker id_marker max url) label id =
-    in_bucket old bucket (lists_uploads old bucket prefix key_marker id_marker max url)
-step settings old (CreateUpload bucket key acl content_type meta) label id =
-    in_bucket old bucket (starts old bucket key acl (new_upload key content_type meta label.moment) id)
-step settings old (UploadPart bucket key upload number body) label id =
-    in_bucket old bucket (in_upload old key upload (puts_part old bucket upload number (new_part label.moment body)))
-step settings old (ListParts bucket key upload marker max) label id = in_bucket old bucket (in_upload old key upload (lists_parts old bucket key upload marker max))
-step settings old (CompleteUpload bucket key upload list) label id = in_bucket old bucket (completes settings old bucket key upload list label.moment)
-step settings old (AbortUpload bucket key upload) label id = in_bucket old bucket (in_upload old key upload (aborts old bucket upload))
-step settings old (DeleteObjects bucket keys quiet) label id = in_bucket old bucket (deletes_all old bucket keys quiet)
-step settings old (CopyObject bucket key acl from_bucket from_key replaced conditions) label id =
-    in_bucket old bucket (copies old bucket key acl from_bucket from_key replaced conditions label.moment)
-step settings old (CopyPart bucket key upload number from_bucket from_key range conditions) label id =
-    in_bucket old bucket (copies_part settings old bucket key upload number from_bucket from_key range conditions label.moment)
+step settings old (GetObject read) label id =
+    in_bucket old read.bucket (in_readable old label.caller read.key (reads old (got read.range read.conditions)))
+step settings old (OnObjects op) label id = objects_step settings old op label
+step settings old (OnUploads op) label id = uploads_step settings old op label id
+step settings old (OnCopies op) label id = copies_step settings old op label
 
 -- an id of 128 bits that is neither open nor kept in the bucket
 pub record IsNewId (b : Bucket) (id : ℕ) : Type 0 where
@@ -422,29 +458,15 @@ pub record IsNewId (b : Bucket) (id : ℕ) : Type 0 where
   pub forgotten : get b.kept (id_digits id) ≡ None
 
 -- the id that the operation may give to a new upload, where it opens one
+abbrev pub IsFreeFor : State → UploadsOp → ℕ → Type 0
+IsFreeFor old (CreateUpload start) id = (b : Bucket) → get old start.bucket ≡ Some b → is_other_acl start.acl b.acl ≡ false → IsNewId b id
+IsFreeFor old _ id = Unit {0}
+
 abbrev pub IsFree : State → Op → ℕ → Type 0
-IsFree old ListBuckets id = Unit {0}
-IsFree old (CreateBucket bucket acl) id = Unit {0}
-IsFree old (DeleteBucket bucket) id = Unit {0}
-IsFree old (HeadBucket bucket) id = Unit {0}
-IsFree old (GetLocation bucket) id = Unit {0}
-IsFree old (GetBucketAcl bucket) id = Unit {0}
-IsFree old (PutBucketAcl bucket acl) id = Unit {0}
-IsFree old (ListObjects bucket asked) id = Unit {0}
-IsFree old (PutObject bucket key acl content_type meta body) id = Unit {0}
-IsFree old (GetObject bucket key range conditions) id = Unit {0}
-IsFree old (HeadObject bucket key range conditions) id = Unit {0}
-IsFree old (DeleteObject bucket key) id = Unit {0}
-IsFree old (GetObjectAcl bucket key) id = Unit {0}
-IsFree old (ListUploads bucket prefix key_marker id_marker max url) id = Unit {0}
-IsFree old (CreateUpload bucket key acl content_type meta) id = (b : Bucket) → get old bucket ≡ Some b → is_other_acl acl b.acl ≡ false → IsNewId b id
-IsFree old (UploadPart bucket key upload number body) id = Unit {0}
-IsFree old (ListParts bucket key upload marker max) id = Unit {0}
-IsFree old (CompleteUpload bucket key upload list) id = Unit {0}
-IsFree old (AbortUpload bucket key upload) id = Unit {0}
-IsFree old (DeleteObjects bucket keys quiet) id = Unit {0}
-IsFree old (CopyObject bucket key acl from_bucket from_key replaced conditions) id = Unit {0}
-IsFree old (CopyPart bucket key upload number from_bucket from_key range conditions) id = Unit {0}
+IsFree old (GetObject read) id = Unit {0}
+IsFree old (OnObjects op) id = Unit {0}
+IsFree old (OnUploads op) id = IsFreeFor old op id
+IsFree old (OnCopies op) id = Unit {0}
 
 -- the service goes by this operation from the old state to the new one, and answers this
 pub record S3Step (settings : Settings) (old : State) (op : Op) (label : Label) (reply : Reply) (new : State) : Type 0 where
@@ -452,87 +474,3 @@ pub record S3Step (settings : Settings) (old : State) (op : Op) (label : Label) 
   pub free : IsFree old op id
   pub replies : reply ≡ (step settings old op label id).reply
   pub goes : new ≡ (step settings old op label id).state
-
--- ---- the limits of an operation
-
--- a bucket's name and a key
-pub record IsPlace (bucket key : List ℕ) : Type 0 where
-  pub named : is_bucket bucket ≡ true
-  pub keyed : is_key key ≡ true
-
--- what an object is put with
-pub record IsProperContent (content_type : List ℕ) (meta : List Pair) (body : List ℕ) : Type 0 where
-  pub typed : is_content_type content_type ≡ true
-  pub described : is_proper_meta meta ≡ true
-  pub sized : length body ≤ most_body_bytes
-
--- a range that a request can have: its numbers have at most 18 digits, and it doesn't end before it begins
-abbrev pub IsProperRange : Range → Type 0
-IsProperRange (FromTo first last) = (first ≤ last) × (last < range_limit)
-IsProperRange (From first) = first < range_limit
-IsProperRange (Last count) = count < range_limit
-
--- what a listing is asked for
-pub record IsProperAsked (asked : Asked) : Type 0 where
-  pub prefix : is_listing_text asked.prefix ≡ true
-  pub delimiter : is_listing_text asked.delimiter ≡ true
-  pub marker : is_listing_text asked.marker ≡ true
-  pub start_after : is_listing_text asked.start_after ≡ true
-  pub token : IfSome asked.token (λ text. is_listing_text text ≡ true)
-  pub few : asked.max ≤ most_items
-
--- what uploads are listed by
-pub record IsProperUploads (with_prefix key id : List ℕ) (max : ℕ) : Type 0 where
-  pub prefix : is_listing_text with_prefix ≡ true
-  pub key_marker : is_listing_text key ≡ true
-  pub id_marker : is_listing_text id ≡ true
-  pub few : max ≤ most_items
-
--- what a completion lists: at least one part, and no more than an upload has
-pub record IsProperList (list : List Listed) : Type 0 where
-  pub filled : 1 ≤ length list
-  pub few : length list ≤ most_parts
-
--- what a deletion of many keys lists: at least one key, and at most as many as may be
-pub record IsProperKeys (keys : List (List ℕ)) : Type 0 where
-  pub filled : 1 ≤ length keys
-  pub few : length keys ≤ most_keys
-  pub keyed : list_all is_key keys ≡ true
-
--- what a copy is put with in place of what its source has
-pub record IsProperReplaced (replaced : Replaced) : Type 0 where
-  pub typed : is_content_type replaced.content_type ≡ true
-  pub described : is_proper_meta replaced.meta ≡ true
-
--- the range of a part that is copied: its numbers have at most 18 digits, and it doesn't end before it begins
-abbrev pub IsProperCopyRange : ℕ × ℕ → Type 0
-IsProperCopyRange range = (range.0 ≤ range.1) × (range.1 < range_limit)
-
--- an operation that keeps the limits of this profile, at a moment that a clock can give
-abbrev pub IsProperOp : Op → Type 0
-IsProperOp ListBuckets = Unit {0}
-IsProperOp (CreateBucket bucket acl) = is_bucket bucket ≡ true
-IsProperOp (DeleteBucket bucket) = is_bucket bucket ≡ true
-IsProperOp (HeadBucket bucket) = is_bucket bucket ≡ true
-IsProperOp (GetLocation bucket) = is_bucket bucket ≡ true
-IsProperOp (GetBucketAcl bucket) = is_bucket bucket ≡ true
-IsProperOp (PutBucketAcl bucket acl) = is_bucket bucket ≡ true
-IsProperOp (ListObjects bucket asked) = (is_bucket bucket ≡ true) × IsProperAsked asked
-IsProperOp (PutObject bucket key acl content_type meta body) = IsPlace bucket key × IsProperContent content_type meta body
-IsProperOp (GetObject bucket key range conditions) = IsPlace bucket key × IfSome range IsProperRange
-IsProperOp (HeadObject bucket key range conditions) = IsPlace bucket key × IfSome range IsProperRange
-IsProperOp (DeleteObject bucket key) = IsPlace bucket key
-IsProperOp (GetObjectAcl bucket key) = IsPlace bucket key
-IsProperOp (ListUploads bucket prefix key_marker id_marker max url) = (is_bucket bucket ≡ true) × IsProperUploads prefix key_marker id_marker max
-IsProperOp (CreateUpload bucket key acl content_type meta) = IsPlace bucket key × (is_content_type content_type ≡ true) × (is_proper_meta meta ≡ true)
-IsProperOp (UploadPart bucket key upload number body) = IsPlace bucket key × IsPartNumber number × (length body ≤ most_body_bytes)
-IsProperOp (ListParts bucket key upload marker max) = IsPlace bucket key × (max ≤ most_items)
-IsProperOp (CompleteUpload bucket key upload list) = IsPlace bucket key × IsProperList list
-IsProperOp (AbortUpload bucket key upload) = IsPlace bucket key
-IsProperOp (DeleteObjects bucket keys quiet) = (is_bucket bucket ≡ true) × IsProperKeys keys
-IsProperOp (CopyObject bucket key acl from_bucket from_key replaced conditions) = IsPlace bucket key × IsPlace from_bucket from_key × IfSome replaced IsProperReplaced
-IsProperOp (CopyPart bucket key upload number from_bucket from_key range conditions) =
-    IsPlace bucket key × IsPartNumber number × IsPlace from_bucket from_key × IfSome range IsProperCopyRange
-
-abbrev pub IsProper : Op → Label → Type 0
-IsProper op label = IsProperOp op × (label.moment < moment_limit)

@@ -4,6 +4,7 @@ ghost use Rattle.md5.specs.Md5.{md5};
 ghost use Rattle.s3_machine.specs.Body.{IsDigestOf};
 ghost use Rattle.s3_machine.specs.ETag.{body_etag};
 
+use crate::Limits;
 use gate_base::{Bytes, Copying, Memory};
 use md5::{Digest, Md5};
 use std::fmt::{self, Debug, Formatter, Write};
@@ -25,6 +26,13 @@ impl Model for Body {
     ghost view = { λ b. b.bytes };
 
     ghost invariant = { λ b. IsDigestOf b.digest b.bytes };
+}
+
+impl Limits for Body {
+    ghost use Rattle.std.specs.Prelude.{◌≤◌, length};
+    ghost use Rattle.s3_machine.specs.Limits.{most_body_bytes};
+
+    ghost Fits = { λ body. length body ≤ most_body_bytes };
 }
 
 impl Body {

@@ -1,3 +1,4 @@
+use crate::Limits;
 use gate_base::{Copying, Memory};
 
 /// The error codes (Amazon S3 API Reference, "Error responses"). `InconsistentStore` is this profile's own.
@@ -37,6 +38,12 @@ pub enum Code {
     ServiceUnavailable,
     SignatureDoesNotMatch,
     XAmzContentSHA256Mismatch,
+}
+
+impl Limits for Code {
+    ghost use Rattle.s3_machine.specs.Proper.{IsProperCode};
+
+    ghost Fits = { λ code. IsProperCode code };
 }
 
 impl Copying for Code {

@@ -2,6 +2,7 @@
 ghost use Rattle.std.specs.Prelude.{◌≡◌, IfOk};
 ghost use Rattle.s3_machine.specs.Items.{begins};
 
+use crate::Limits;
 use gate_base::{Bytes, Copying, Memory};
 
 /// A bucket as ListBuckets lists it, with the moment at which it was made in seconds since the beginning of 1970.
@@ -36,6 +37,12 @@ pub struct Asked {
     pub owner: bool,
 }
 
+impl Limits for Asked {
+    ghost use Rattle.s3_machine.specs.Proper.{IsProperAsked};
+
+    ghost Fits = { λ asked. IsProperAsked asked };
+}
+
 impl Copying for Asked {
     fn copy(&self) -> Result<Asked, Memory> {
         Ok(Asked {
@@ -68,6 +75,48 @@ impl Copying for ItemHead {
             size: self.size,
         })
     }
+}
+
+/// What ListUploads asks for. `url` asks for escaped texts.
+#[derive(Debug, Drop)]
+pub struct UploadsAsked {
+    pub prefix: Bytes,
+    pub key_marker: Bytes,
+    pub id_marker: Bytes,
+    pub max: u32,
+    pub url: bool,
+}
+
+impl Limits for UploadsAsked {
+    ghost use Rattle.s3_machine.specs.Proper.{IsProperUploads};
+
+    ghost Fits = { λ asked. IsProperUploads asked.prefix asked.key_marker asked.id_marker asked.max };
+}
+
+impl Copying for UploadsAsked {
+    fn copy(&self) -> Result<UploadsAsked, Memory> {
+        Ok(UploadsAsked {
+            prefix: self.prefix.copy()?,
+            key_marker: self.key_marker.copy()?,
+            id_marker: self.id_marker.copy()?,
+            max: self.max,
+            url: self.url,
+        })
+    }
+}
+
+/// What ListParts asks for: at most so many parts, of those above a number.
+#[derive(Debug, Drop)]
+pub struct PartsAsked {
+    pub marker: u32,
+    pub max: u32,
+}
+
+impl Limits for PartsAsked {
+    ghost use Rattle.std.specs.Prelude.{◌≤◌};
+    ghost use Rattle.s3_machine.specs.Limits.{most_items};
+
+    ghost Fits = { λ asked. asked.max ≤ most_items };
 }
 
 /// An item of a listing: a key with its object, or the common prefix that keys were rolled up into.

@@ -1,12 +1,14 @@
-ghost use Rattle.std.specs.Prelude.{◌≡◌};
+ghost use Rattle.std.specs.Prelude.{◌≡◌, ◌<◌};
+ghost use Rattle.gate_base.specs.Told.{moment_limit};
 ghost use Rattle.s3_machine.specs.Limits.{body_limit};
 
-use crate::items::{Asked, BucketItem, Item, PartItem, UploadItem};
+use crate::items::{Asked, BucketItem, Item, PartItem, PartsAsked, UploadItem, UploadsAsked};
 use crate::limits::MOST_BODY_BYTES;
+use crate::only_if::OnlyIf;
 use crate::reading::{Conditions, Range};
-use crate::{Body, Code};
+use crate::{Body, Code, CopyRange, Limits, PartNumber, Proper};
 use gate_base::{Bytes, Caller, Copying, List, Memory};
-use s3_names::{Acl, Meta};
+use s3_names::{Acl, BucketName, Key, Meta};
 
 /// What holds for a whole run: the region's name, the least size in bytes of a part that isn't the last, the greatest of a body and
 /// of a part that is copied, and whether requests may ask for more than the strict profile has. A greatest size above
@@ -39,14 +41,15 @@ impl Settings {
     }
 }
 
-/// What holds for one request: who sent it, the moment in seconds since the beginning of 1970, its id, and a
-/// word of chance.
+/// What holds for one request: who sent it, the moment in seconds since the beginning of 1970 and before the year 10000, its id,
+/// and a word of chance.
 #[derive(Clone, Copy, Debug, PartialEq, Eq)]
 pub struct Label {
     pub caller: Caller,
     pub moment: u64,
     pub request_id: u128,
     pub draw: u128,
+    pub ghost timed: { moment < moment_limit },
 }
 
 impl Copying for Label {
@@ -71,144 +74,234 @@ impl Copying for Listed {
     }
 }
 
-/// What a copy is put with in place of what its source has.
+impl Limits for List<Listed> {
+    ghost use Rattle.s3_machine.specs.Proper.{IsProperList};
+
+    ghost Fits = { λ list. IsProperList list };
+}
+
+/// What an object is described by: the content type and the user metadata of an upload, and those that a copy is put with in
+/// place of what its source has.
 #[derive(Debug, Drop)]
-pub struct Replaced {
+pub struct Described {
     pub content_type: Bytes,
     pub meta: Meta,
 }
 
-impl Copying for Replaced {
-    fn copy(&self) -> Result<Replaced, Memory> {
-        Ok(Replaced {
+impl Limits for Described {
+    ghost use Rattle.s3_machine.specs.Proper.{IsProperDescribed};
+
+    ghost Fits = { λ described. IsProperDescribed described };
+}
+
+impl Copying for Described {
+    fn copy(&self) -> Result<Described, Memory> {
+        Ok(Described {
             content_type: self.content_type.copy()?,
             meta: self.meta.copy()?,
         })
     }
 }
 
-/// The operations of Amazon S3. An access control list that isn't given is the bucket's. The id of an upload is a text as it was
-/// given: one that is no open upload's is NoSuchUpload. The range of a part that is copied has the number of its first byte and
-/// that of its last. The conditions of a copy are on its source. `url` asks for a listing with escaped texts.
+/// A bucket and an access control list, as CreateBucket and PutBucketAcl have them.
+#[derive(Debug, Drop)]
+pub struct BucketAcl {
+    pub bucket: BucketName,
+    pub acl: Acl,
+}
+
+/// A bucket, and what ListObjects asks of it.
+#[derive(Debug, Drop)]
+pub struct ObjectListing {
+    pub bucket: BucketName,
+    pub asked: Proper<Asked>,
+}
+
+/// What an object is put with.
+#[derive(Debug, Drop)]
+pub struct Content {
+    pub content_type: Bytes,
+    pub meta: Meta,
+    pub body: Body,
+}
+
+impl Limits for Content {
+    ghost use Rattle.s3_machine.specs.Proper.{IsProperContent};
+
+    ghost Fits = { λ content. IsProperContent content.content_type content.meta content.body };
+}
+
+/// An object that is put. An access control list that isn't given is the bucket's. `only_if` is what is asked of what stands under
+/// the key, here and in each other write, last of all.
+#[derive(Debug, Drop)]
+pub struct ObjectPut {
+    pub bucket: BucketName,
+    pub key: Key,
+    pub acl: Option<Acl>,
+    pub content: Proper<Content>,
+    pub only_if: OnlyIf,
+}
+
+/// An object that is read, as GetObject and HeadObject have it.
+#[derive(Debug, Drop)]
+pub struct ObjectRead {
+    pub bucket: BucketName,
+    pub key: Key,
+    pub range: Option<Range>,
+    pub conditions: Conditions,
+}
+
+/// The name of an object, as GetObjectAcl has it.
+#[derive(Debug, Drop)]
+pub struct ObjectName {
+    pub bucket: BucketName,
+    pub key: Key,
+}
+
+/// An object that is deleted.
+#[derive(Debug, Drop)]
+pub struct ObjectDeletion {
+    pub bucket: BucketName,
+    pub key: Key,
+    pub only_if: OnlyIf,
+}
+
+/// Many keys of a bucket that are deleted.
+#[derive(Debug, Drop)]
+pub struct ObjectsDeletion {
+    pub bucket: BucketName,
+    pub keys: Proper<List<Key>>,
+    pub quiet: bool,
+}
+
+impl Limits for List<Key> {
+    ghost use Rattle.s3_machine.specs.Proper.{IsProperKeys};
+
+    ghost Fits = { λ keys. IsProperKeys keys };
+}
+
+/// The operations on buckets and objects, but for GetObject.
+#[derive(Debug, Drop)]
+pub enum ObjectsOp {
+    ListBuckets,
+    CreateBucket(BucketAcl),
+    DeleteBucket(BucketName),
+    HeadBucket(BucketName),
+    GetLocation(BucketName),
+    GetBucketAcl(BucketName),
+    PutBucketAcl(BucketAcl),
+    ListObjects(ObjectListing),
+    PutObject(ObjectPut),
+    HeadObject(ObjectRead),
+    DeleteObject(ObjectDeletion),
+    DeleteObjects(ObjectsDeletion),
+    GetObjectAcl(ObjectName),
+}
+
+/// A bucket, and what ListUploads asks of it.
+#[derive(Debug, Drop)]
+pub struct UploadListing {
+    pub bucket: BucketName,
+    pub asked: Proper<UploadsAsked>,
+}
+
+/// An upload that is created.
+#[derive(Debug, Drop)]
+pub struct UploadStart {
+    pub bucket: BucketName,
+    pub key: Key,
+    pub acl: Option<Acl>,
+    pub described: Proper<Described>,
+}
+
+/// A part that is put. The id of an upload is a text as it was given: one that is no open upload's is NoSuchUpload.
+#[derive(Debug, Drop)]
+pub struct PartPut {
+    pub bucket: BucketName,
+    pub key: Key,
+    pub id: Bytes,
+    pub number: PartNumber,
+    pub body: Proper<Body>,
+}
+
+/// An upload, and which of its parts ListParts lists.
+#[derive(Debug, Drop)]
+pub struct PartListing {
+    pub bucket: BucketName,
+    pub key: Key,
+    pub id: Bytes,
+    pub asked: Proper<PartsAsked>,
+}
+
+/// An upload, and the parts that complete it.
+#[derive(Debug, Drop)]
+pub struct UploadCompletion {
+    pub bucket: BucketName,
+    pub key: Key,
+    pub id: Bytes,
+    pub list: Proper<List<Listed>>,
+    pub only_if: OnlyIf,
+}
+
+/// The name of an upload, as AbortUpload has it.
+#[derive(Debug, Drop)]
+pub struct UploadName {
+    pub bucket: BucketName,
+    pub key: Key,
+    pub id: Bytes,
+}
+
+/// The operations on uploads in parts.
+#[derive(Debug, Drop)]
+pub enum UploadsOp {
+    ListUploads(UploadListing),
+    CreateUpload(UploadStart),
+    UploadPart(PartPut),
+    ListParts(PartListing),
+    CompleteUpload(UploadCompletion),
+    AbortUpload(UploadName),
+}
+
+/// An object that is copied. The conditions are on its source.
+#[derive(Debug, Drop)]
+pub struct ObjectCopy {
+    pub bucket: BucketName,
+    pub key: Key,
+    pub acl: Option<Acl>,
+    pub from_bucket: BucketName,
+    pub from_key: Key,
+    pub replaced: Option<Proper<Described>>,
+    pub conditions: Conditions,
+    pub only_if: OnlyIf,
+}
+
+/// A part that is copied. The conditions are on its source.
+#[derive(Debug, Drop)]
+pub struct PartCopy {
+    pub bucket: BucketName,
+    pub key: Key,
+    pub id: Bytes,
+    pub number: PartNumber,
+    pub from_bucket: BucketName,
+    pub from_key: Key,
+    pub range: Option<CopyRange>,
+    pub conditions: Conditions,
+}
+
+/// The copies.
+#[derive(Debug, Drop)]
+pub enum CopiesOp {
+    CopyObject(ObjectCopy),
+    CopyPart(PartCopy),
+}
+
+/// The operations of Amazon S3, by the crate that has their plans, and GetObject, which alone is answered in pieces.
 #[derive(Debug, Drop)]
 pub enum Op {
-    ListBuckets,
-    CreateBucket {
-        bucket: Bytes,
-        acl: Acl,
-    },
-    DeleteBucket {
-        bucket: Bytes,
-    },
-    HeadBucket {
-        bucket: Bytes,
-    },
-    GetLocation {
-        bucket: Bytes,
-    },
-    GetBucketAcl {
-        bucket: Bytes,
-    },
-    PutBucketAcl {
-        bucket: Bytes,
-        acl: Acl,
-    },
-    ListObjects {
-        bucket: Bytes,
-        asked: Asked,
-    },
-    PutObject {
-        bucket: Bytes,
-        key: Bytes,
-        acl: Option<Acl>,
-        content_type: Bytes,
-        meta: Meta,
-        body: Body,
-    },
-    GetObject {
-        bucket: Bytes,
-        key: Bytes,
-        range: Option<Range>,
-        conditions: Conditions,
-    },
-    HeadObject {
-        bucket: Bytes,
-        key: Bytes,
-        range: Option<Range>,
-        conditions: Conditions,
-    },
-    DeleteObject {
-        bucket: Bytes,
-        key: Bytes,
-    },
-    GetObjectAcl {
-        bucket: Bytes,
-        key: Bytes,
-    },
-    ListUploads {
-        bucket: Bytes,
-        prefix: Bytes,
-        key_marker: Bytes,
-        id_marker: Bytes,
-        max: u32,
-        url: bool,
-    },
-    CreateUpload {
-        bucket: Bytes,
-        key: Bytes,
-        acl: Option<Acl>,
-        content_type: Bytes,
-        meta: Meta,
-    },
-    UploadPart {
-        bucket: Bytes,
-        key: Bytes,
-        id: Bytes,
-        number: u32,
-        body: Body,
-    },
-    ListParts {
-        bucket: Bytes,
-        key: Bytes,
-        id: Bytes,
-        marker: u32,
-        max: u32,
-    },
-    CompleteUpload {
-        bucket: Bytes,
-        key: Bytes,
-        id: Bytes,
-        list: List<Listed>,
-    },
-    AbortUpload {
-        bucket: Bytes,
-        key: Bytes,
-        id: Bytes,
-    },
-    DeleteObjects {
-        bucket: Bytes,
-        keys: List<Bytes>,
-        quiet: bool,
-    },
-    CopyObject {
-        bucket: Bytes,
-        key: Bytes,
-        acl: Option<Acl>,
-        from_bucket: Bytes,
-        from_key: Bytes,
-        replaced: Option<Replaced>,
-        conditions: Conditions,
-    },
-    CopyPart {
-        bucket: Bytes,
-        key: Bytes,
-        id: Bytes,
-        number: u32,
-        from_bucket: Bytes,
-        from_key: Bytes,
-        range: Option<(u64, u64)>,
-        conditions: Conditions,
-    },
+    GetObject(ObjectRead),
+    OnObjects(ObjectsOp),
+    OnUploads(UploadsOp),
+    OnCopies(CopiesOp),
 }
 
 /// An object but for its bytes: its ETag without quotes, the moment of its last change in seconds since the
@@ -234,11 +327,100 @@ impl Copying for ObjectHead {
     }
 }
 
-/// What an operation is answered. `Memory` says that memory ran out; the machine itself never gives it. An
-/// `Object` has `length` bytes from the byte `from` on, all of them in `body` or, in the reply to a HEAD, none; it is
-/// `partial` where a range was asked for. A listing is `truncated` where items are left over. ETags stand without quotes. A
-/// `quiet` deletion of many keys shows none of them. What was `Copied` is a part or an object, with the ETag and the moment that
-/// it has since.
+/// The bytes of an object, as GetObject and HeadObject are answered: it has `length` bytes from the byte `from` on, all of them in
+/// `body` or, in the reply to a HEAD, none; it is `partial` where a range was asked for.
+#[derive(Debug, Drop)]
+pub struct ObjectBytes {
+    pub head: ObjectHead,
+    pub from: u64,
+    pub length: u64,
+    pub partial: bool,
+    pub body: Bytes,
+}
+
+/// A page of the objects of a bucket, `truncated` where items are left over.
+#[derive(Debug, Drop)]
+pub struct ObjectPage {
+    pub bucket: Bytes,
+    pub asked: Asked,
+    pub items: List<Item>,
+    pub truncated: bool,
+}
+
+/// Keys that were deleted. A `quiet` reply shows none of them.
+#[derive(Debug, Drop)]
+pub struct DeletedKeys {
+    pub keys: List<Key>,
+    pub quiet: bool,
+}
+
+/// What operations on buckets and objects are answered: the buckets, the name of one that was made, the region, an access control
+/// list, a page of objects, or keys that were deleted.
+#[derive(Debug, Drop)]
+pub enum ObjectsReply {
+    Buckets(List<BucketItem>),
+    Made(Bytes),
+    Location(Bytes),
+    AclOf(Acl),
+    Objects(ObjectPage),
+    Deleted(DeletedKeys),
+}
+
+/// A page of the open uploads of a bucket, `truncated` where items are left over.
+#[derive(Debug, Drop)]
+pub struct UploadPage {
+    pub bucket: Bytes,
+    pub asked: UploadsAsked,
+    pub items: List<UploadItem>,
+    pub truncated: bool,
+}
+
+/// An upload that was started.
+#[derive(Debug, Drop)]
+pub struct StartedUpload {
+    pub bucket: Bytes,
+    pub key: Bytes,
+    pub id: u128,
+}
+
+/// A page of the parts of an upload, `truncated` where items are left over.
+#[derive(Debug, Drop)]
+pub struct PartPage {
+    pub bucket: Bytes,
+    pub key: Bytes,
+    pub id: u128,
+    pub asked: PartsAsked,
+    pub items: List<PartItem>,
+    pub truncated: bool,
+}
+
+/// An object that was completed, with its ETag without quotes.
+#[derive(Debug, Drop)]
+pub struct CompletedObject {
+    pub bucket: Bytes,
+    pub key: Bytes,
+    pub etag: Bytes,
+}
+
+/// What operations on uploads in parts are answered.
+#[derive(Debug, Drop)]
+pub enum UploadsReply {
+    Uploads(UploadPage),
+    Started(StartedUpload),
+    Parts(PartPage),
+    Completed(CompletedObject),
+}
+
+/// A part or an object that was copied, with the ETag without quotes and the moment that it has since.
+#[derive(Debug, Drop)]
+pub struct CopiedBytes {
+    pub part: bool,
+    pub etag: Bytes,
+    pub modified: u64,
+}
+
+/// What an operation is answered. `Memory` says that memory ran out; the machine itself never gives it. What was `Stored`, an object
+/// or a part, has this ETag without quotes.
 #[derive(Debug, Drop)]
 pub enum Reply {
     Refused(Code),
@@ -246,66 +428,9 @@ pub enum Reply {
     Done,
     Gone,
     NotModified(ObjectHead),
-    Buckets(List<BucketItem>),
-    Made {
-        bucket: Bytes,
-    },
-    Location {
-        region: Bytes,
-    },
-    AclOf(Acl),
-    Objects {
-        bucket: Bytes,
-        asked: Asked,
-        items: List<Item>,
-        truncated: bool,
-    },
-    Uploads {
-        bucket: Bytes,
-        prefix: Bytes,
-        key_marker: Bytes,
-        id_marker: Bytes,
-        max: u32,
-        url: bool,
-        items: List<UploadItem>,
-        truncated: bool,
-    },
-    Stored {
-        etag: Bytes,
-    },
-    Object {
-        head: ObjectHead,
-        from: u64,
-        length: u64,
-        partial: bool,
-        body: Bytes,
-    },
-    Started {
-        bucket: Bytes,
-        key: Bytes,
-        id: u128,
-    },
-    Parts {
-        bucket: Bytes,
-        key: Bytes,
-        id: u128,
-        marker: u32,
-        max: u32,
-        items: List<PartItem>,
-        truncated: bool,
-    },
-    Completed {
-        bucket: Bytes,
-        key: Bytes,
-        etag: Bytes,
-    },
-    Deleted {
-        keys: List<Bytes>,
-        quiet: bool,
-    },
-    Copied {
-        part: bool,
-        etag: Bytes,
-        modified: u64,
-    },
+    Object(ObjectBytes),
+    Stored(Bytes),
+    OfObjects(ObjectsReply),
+    OfUploads(UploadsReply),
+    Copied(CopiedBytes),
 }

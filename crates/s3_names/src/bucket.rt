@@ -1,4 +1,4 @@
-ghost use Rattle.std.specs.Prelude.{◌≡◌, ◌&&◌, ◌==◌, length, nat_le, count_by, Err};
+ghost use Rattle.std.specs.Prelude.{◌≡◌, ◌&&◌, ◌==◌, length, nat_le, count_by, Err, IfOk};
 ghost use Rattle.std.specs.List.{list_all, slice_split};
 ghost use Rattle.gate_base.specs.Ascii.{is_digit};
 ghost use Rattle.s3_names.specs.Bucket.{is_lower_or_digit, is_bucket_byte, begins_and_ends, has_two_dots, is_short_number, is_address, is_dot, is_bucket, bucket_of};
@@ -31,6 +31,14 @@ impl Model for BucketName {
 impl BucketName {
     ghost use Rattle.std.specs.Prelude.{true};
 
+    /// The bucket name that this text is. It takes no memory.
+    pub fn of(name: Bytes) -> BucketName
+        requires { is_bucket name ≡ true }
+        ensures { result ≡ name }
+    {
+        BucketName { name }
+    }
+
     /// The bucket name that these bytes are. `BadBucket` exactly where they are none; memory runs out only where
     /// they are one.
     pub fn read(alloc: Global, name: &[u8]) -> Result<BucketName, NameFault>
@@ -52,6 +60,29 @@ impl BucketName {
         ensures fit { is_bucket self.now ≡ true }
     {
         self.name.as_slice()
+    }
+
+    /// Says that the name is a bucket name, where no other call does. It does nothing.
+    pub fn fits(&self)
+        ensures { is_bucket self.now ≡ true }
+    {
+        let _ = &self.name;
+    }
+
+    /// A copy of the text of the name.
+    pub fn copy_text(&self) -> Result<Bytes, Memory>
+        ensures value { IfOk result (λ text. text ≡ self.now) }
+        ensures fit { is_bucket self.now ≡ true }
+    {
+        self.name.copy()
+    }
+
+    /// The text of the name, which is given away. It takes no memory.
+    pub fn into_text(self) -> Bytes
+        ensures value { result ≡ self }
+        ensures fit { is_bucket self ≡ true }
+    {
+        self.name
     }
 }
 

@@ -1,4 +1,4 @@
-ghost use Rattle.std.specs.Prelude.{◌≡◌, Err};
+ghost use Rattle.std.specs.Prelude.{◌≡◌, Err, IfOk};
 ghost use Rattle.s3_names.specs.Answer.{Gives};
 ghost use Rattle.s3_names.specs.Key.{is_key, key_of};
 
@@ -39,6 +39,14 @@ impl Model for Key {
 impl Key {
     ghost use Rattle.std.specs.Prelude.{true};
 
+    /// The key that this text is. It takes no memory.
+    pub fn of(name: Bytes) -> Key
+        requires { is_key name ≡ true }
+        ensures { result ≡ name }
+    {
+        Key { name }
+    }
+
     /// The key that these bytes are. `EmptyKey` for no byte; else `LongKey` above 1024 bytes; else `NotUtf8` where
     /// they aren't UTF-8 or have a byte 0. Memory runs out only where none of these fits.
     #[tactic(auto, unfolding(crate::specs::Key::key_of, crate::specs::Key::is_key))]
@@ -66,6 +74,29 @@ impl Key {
         ensures fit { is_key self.now ≡ true }
     {
         self.name.as_slice()
+    }
+
+    /// Says that the key is one, where no other call does. It does nothing.
+    pub fn fits(&self)
+        ensures { is_key self.now ≡ true }
+    {
+        let _ = &self.name;
+    }
+
+    /// A copy of the text of the key.
+    pub fn copy_text(&self) -> Result<Bytes, Memory>
+        ensures value { IfOk result (λ text. text ≡ self.now) }
+        ensures fit { is_key self.now ≡ true }
+    {
+        self.name.copy()
+    }
+
+    /// The text of the key, which is given away. It takes no memory.
+    pub fn into_text(self) -> Bytes
+        ensures value { result ≡ self }
+        ensures fit { is_key self ≡ true }
+    {
+        self.name
     }
 }
 

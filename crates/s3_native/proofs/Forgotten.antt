@@ -11,7 +11,7 @@ use Rattle.std.specs.FinMap.{entries, from_entries, get}
 use Rattle.gate_base.specs.Maps.{Names, pick_entry, picked}
 use Rattle.gate_base.proofs.lemmas.Maps.{by_name, get-picked}
 use Rattle.name_table.specs.Table.{entry_of, names_of}
-use Rattle.s3_machine.specs.State.{Bucket, Completion, State}
+use Rattle.s3_machine.specs.State.{Bucket, State}
 use Rattle.s3_native.specs.Forgetting.{Forgets, ForgetsAt, ForgetsIn, all_old, is_older, newer_in, newer_in_each, old_in, unless_older}
 
 -- ---- what is left

@@ -2,7 +2,8 @@
 ghost use Rattle.std.specs.Prelude.{◌≡◌, ◌-◌, ◌^◌, IfOk, OnErr, OnOk, length, min};
 ghost use Rattle.std.specs.FinMap.{empty};
 ghost use Rattle.gate_base.specs.Maps.{adjust};
-ghost use Rattle.s3_machine.specs.declared.operation.Op.TheVariants.{
+ghost use Rattle.s3_machine.specs.declared.operation.Op.TheVariants.{GetObject, OnObjects};
+ghost use Rattle.s3_machine.specs.declared.operation.ObjectsOp.TheVariants.{
   ListBuckets,
   CreateBucket,
   DeleteBucket,
@@ -12,7 +13,6 @@ ghost use Rattle.s3_machine.specs.declared.operation.Op.TheVariants.{
   PutBucketAcl,
   ListObjects,
   PutObject,
-  GetObject,
   HeadObject,
   DeleteObject,
   DeleteObjects,
@@ -20,7 +20,7 @@ ghost use Rattle.s3_machine.specs.declared.operation.Op.TheVariants.{
 };
 ghost use Rattle.s3_native.specs.Forgetting.{Forgets, all_old};
 ghost use Rattle.s3_native.specs.NewIds.{GivesFirstId};
-ghost use Rattle.s3_machine.specs.Step.{IsProper, S3Step, bucket_items, drop_object, drop_objects, is_other_acl, may_read, put_object, with_acl};
+ghost use Rattle.s3_machine.specs.Step.{S3Step, bucket_items, drop_object, drop_objects, is_other_acl, may_read, put_object, with_acl};
 
 use crate::kept::NativeKept;
 use crate::listing::native_listed_items;
@@ -29,10 +29,12 @@ use crate::upload::NativeUpload;
 use gate_base::{Bytes, Caller, Copying, List, Memory};
 use name_table::Table;
 use s3_machine::{
-    Asked, Body, BucketItem, Code, Conditions, Item, ItemHead, Judged, Label, ObjectHead, Op,
-    Range, Reply, Settings, Span, is_other_acl, judge, may_read,
+    Asked, BucketAcl, BucketItem, Code, Conditions, Content, DeletedKeys, Item, ItemHead, Judged,
+    Label, ObjectBytes, ObjectDeletion, ObjectHead, ObjectListing, ObjectName, ObjectPage,
+    ObjectPut, ObjectRead, ObjectsDeletion, ObjectsOp, ObjectsReply, OnlyIf, Op, Range, Reply,
+    Settings, Span, is_other_acl, judge, may_read,
 };
-use s3_names::{Acl, Meta};
+use s3_names::{Acl, BucketName, Key, Meta};
 use std::alloc::Global;
 use std::marker::Model;
 
@@ -63,21 +65,16 @@ impl NativeObject {
     ghost use Rattle.s3_machine.specs.Reading.{taken};
     ghost use Rattle.s3_machine.specs.Step.{got, head_of, headed, item_head, new_object};
 
-    fn new(
-        alloc: Global,
-        moment: u64,
-        content_type: &Bytes,
-        meta: &Meta,
-        body: &Body,
-    ) -> Result<NativeObject, Memory>
+    fn new(alloc: Global, moment: u64, content: &Content) -> Result<NativeObject, Memory>
         ensures { IfOk result
-            (λ made. made ≡ new_object moment content_type.now meta.now body.now) }
+            (λ made. made ≡ new_object moment content.now.content_type content.now.meta
+            content.now.body) }
     {
         Ok(NativeObject {
-            bytes: Bytes::from_slice(alloc, body.as_slice())?,
-            etag: Bytes::from_slice(alloc, &body.etag())?,
-            content_type: content_type.copy()?,
-            meta: meta.copy()?,
+            bytes: Bytes::from_slice(alloc, content.body.as_slice())?,
+            etag: Bytes::from_slice(alloc, &content.body.etag())?,
+            content_type: content.content_type.copy()?,
+            meta: content.meta.copy()?,
             modified: moment,
         })
     }
@@ -119,13 +116,13 @@ impl NativeObject {
             Judged::PreconditionFailed => Ok(Reply::Refused(Code::PreconditionFailed)),
             Judged::NotModified => Ok(Reply::NotModified(head)),
             Judged::InvalidRange => Ok(Reply::Refused(Code::InvalidRange)),
-            Judged::Bytes { span, partial } => Ok(Reply::Object {
+            Judged::Bytes { span, partial } => Ok(Reply::Object(ObjectBytes {
                 head,
                 from: span.from,
                 length: span.length,
                 partial,
                 body: self.taken(alloc, span)?,
-            }),
+            })),
         }
     }
 
@@ -143,13 +140,13 @@ impl NativeObject {
             Judged::PreconditionFailed => Ok(Reply::Refused(Code::PreconditionFailed)),
             Judged::NotModified => Ok(Reply::NotModified(head)),
             Judged::InvalidRange => Ok(Reply::Refused(Code::InvalidRange)),
-            Judged::Bytes { span, partial } => Ok(Reply::Object {
+            Judged::Bytes { span, partial } => Ok(Reply::Object(ObjectBytes {
                 head,
                 from: span.from,
                 length: span.length,
                 partial,
                 body: Bytes::new(alloc),
-            }),
+            })),
         }
     }
 
@@ -191,7 +188,7 @@ impl NativeBucket {
     ghost use Rattle.std.specs.FinMap.{entries, get};
     ghost use Rattle.s3_native.specs.Forgetting.{is_older, newer_in};
     ghost use Rattle.s3_native.specs.Native.{shown};
-    ghost use Rattle.s3_machine.specs.Step.{drop_object, drop_objects, is_bare, listing, new_bucket, put_object, with_acl};
+    ghost use Rattle.s3_machine.specs.Step.{drop_object, drop_objects, is_bare, listing, new_bucket, put_object, refusal_in, with_acl};
 
     fn new(alloc: Global, moment: u64, acl: Acl) -> NativeBucket
         ensures { result ≡ new_bucket moment acl }
@@ -247,6 +244,16 @@ impl NativeBucket {
         self.objects.get(key)
     }
 
+    /// Why a write of the key is refused by its condition, if it is.
+    pub(crate) fn refuses(&self, key: &[u8], only_if: &OnlyIf) -> Option<Code>
+        ensures { result ≡ refusal_in only_if.now key.now self.now }
+    {
+        match self.object(key) {
+            Some(object) => only_if.refusal_of_object(object.etag.as_slice()),
+            None => only_if.refusal_where_missing(),
+        }
+    }
+
     fn listing(&self, alloc: Global, asked: &Asked) -> Result<(List<Item>, bool), Memory>
         ensures { IfOk result (λ listed. listed ≡ shown (listing asked.now self.now.objects)) }
     {
@@ -280,11 +287,11 @@ impl NativeBucket {
         self.kept.drop_older(before);
     }
 
-    fn drop_all(&mut self, keys: &[Bytes])
+    fn drop_all(&mut self, keys: &[Key])
         ensures { self.new ≡ drop_objects keys.now self.old }
     {
         for key in keys {
-            self.drop_at(key.as_slice());
+            self.drop_at(key.bytes());
         }
     }
 }
@@ -346,7 +353,7 @@ fn drop_native_object(buckets: &mut Named<NativeBucket>, bucket: &[u8], key: &[u
 
 /// Takes away the objects of these keys in a bucket, as far as there are any.
 #[tactic(auto, using(name_table::proofs::lemmas::Tables::nothing_there))]
-fn drop_native_objects(buckets: &mut Named<NativeBucket>, bucket: &[u8], keys: &[Bytes])
+fn drop_native_objects(buckets: &mut Named<NativeBucket>, bucket: &[u8], keys: &[Key])
     ensures { buckets.new ≡ adjust bucket.now (drop_objects keys.now) buckets.old }
 {
     if let Some(found) = buckets.get_mut(bucket) {
@@ -390,7 +397,6 @@ impl Native {
 
     /// One step: what the operation is answered, and the state after it. Where memory runs out, the state is as before.
     pub fn step(&mut self, op: &Op, label: &Label) -> Result<Reply, Memory>
-        requires { IsProper op.now label.now }
         ensures settings { self.new.settings ≡ self.old.settings }
         ensures ok { IfOk result (λ reply. S3Step self.old.settings self.old.state op.now label.now
             reply self.new.state) }
@@ -398,43 +404,35 @@ impl Native {
         ensures err { OnErr result (self.new.state ≡ self.old.state) }
     {
         match op {
-            Op::ListBuckets => self.list_buckets(label),
-            Op::CreateBucket { bucket, acl } => self.create_bucket(bucket, *acl, label),
-            Op::DeleteBucket { bucket } => Ok(self.delete_bucket(bucket, label)),
-            Op::HeadBucket { bucket } => Ok(self.head_bucket(bucket, label)),
-            Op::GetLocation { bucket } => self.get_location(bucket, label),
-            Op::GetBucketAcl { bucket } => Ok(self.get_bucket_acl(bucket, label)),
-            Op::PutBucketAcl { bucket, acl } => Ok(self.put_bucket_acl(bucket, *acl, label)),
-            Op::PutObject {
-                bucket,
-                key,
-                acl,
-                content_type,
-                meta,
-                body,
-            } => self.put_object(bucket, key, *acl, content_type, meta, body, label),
-            Op::ListObjects { bucket, asked } => self.list_objects(bucket, asked, label),
-            Op::GetObject {
-                bucket,
-                key,
-                range,
-                conditions,
-            } => self.get_object(bucket, key, *range, conditions, label),
-            Op::HeadObject {
-                bucket,
-                key,
-                range,
-                conditions,
-            } => self.head_object(bucket, key, *range, conditions, label),
-            Op::DeleteObject { bucket, key } => self.delete_object(bucket, key, label),
-            Op::DeleteObjects {
-                bucket,
-                keys,
-                quiet,
-            } => self.delete_objects(bucket, keys, *quiet, label),
-            Op::GetObjectAcl { bucket, key } => Ok(self.get_object_acl(bucket, key, label)),
-            Op::CopyObject { .. } | Op::CopyPart { .. } => self.step_copy(op, label),
-            _ => self.step_upload(op, label),
+            Op::GetObject(read) => self.get_object(read, label),
+            Op::OnObjects(op) => self.step_object(op, label),
+            Op::OnUploads(op) => self.step_upload(op, label),
+            Op::OnCopies(op) => self.step_copy(op, label),
+        }
+    }
+
+    /// A step of an operation on buckets and objects.
+    fn step_object(&mut self, op: &ObjectsOp, label: &Label) -> Result<Reply, Memory>
+        ensures settings { self.new.settings ≡ self.old.settings }
+        ensures ok { IfOk result (λ reply. S3Step self.old.settings self.old.state
+            (OnObjects op.now)
+            label.now reply self.new.state) }
+        ensures err { OnErr result (self.new.state ≡ self.old.state) }
+    {
+        match op {
+            ObjectsOp::ListBuckets => self.list_buckets(label),
+            ObjectsOp::CreateBucket(made) => self.create_bucket(made, label),
+            ObjectsOp::DeleteBucket(bucket) => Ok(self.delete_bucket(bucket, label)),
+            ObjectsOp::HeadBucket(bucket) => Ok(self.head_bucket(bucket, label)),
+            ObjectsOp::GetLocation(bucket) => self.get_location(bucket, label),
+            ObjectsOp::GetBucketAcl(bucket) => Ok(self.get_bucket_acl(bucket, label)),
+            ObjectsOp::PutBucketAcl(set) => Ok(self.put_bucket_acl(set, label)),
+            ObjectsOp::ListObjects(list) => self.list_objects(list, label),
+            ObjectsOp::PutObject(put) => self.put_object(put, label),
+            ObjectsOp::HeadObject(read) => self.head_object(read, label),
+            ObjectsOp::DeleteObject(deletion) => Ok(self.delete_object(deletion, label)),
+            ObjectsOp::DeleteObjects(many) => self.delete_objects(many, label),
+            ObjectsOp::GetObjectAcl(name) => Ok(self.get_object_acl(name, label)),
         }
     }
 
@@ -451,48 +449,50 @@ impl Native {
     }
 
     fn list_buckets(&self, label: &Label) -> Result<Reply, Memory>
-        ensures { IfOk result (λ reply. S3Step self.now.settings self.now.state ListBuckets
-            label.now reply self.now.state) }
+        ensures { IfOk result (λ reply. S3Step self.now.settings self.now.state
+            (OnObjects ListBuckets) label.now reply self.now.state) }
     {
-        Ok(Reply::Buckets(native_bucket_items(&self.buckets, self.alloc)?))
+        let items = native_bucket_items(&self.buckets, self.alloc)?;
+        Ok(Reply::OfObjects(ObjectsReply::Buckets(items)))
     }
 
     /// Where memory runs out, the state is as before.
-    fn create_bucket(&mut self, bucket: &Bytes, acl: Acl, label: &Label) -> Result<Reply, Memory>
+    fn create_bucket(&mut self, made: &BucketAcl, label: &Label) -> Result<Reply, Memory>
         ensures settings { self.new.settings ≡ self.old.settings }
         ensures ok { IfOk result (λ reply. S3Step self.old.settings self.old.state
-            (CreateBucket bucket.now acl) label.now reply self.new.state) }
+            (OnObjects (CreateBucket made.now)) label.now reply self.new.state) }
         ensures err { OnErr result (self.new.state ≡ self.old.state) }
     {
-        if self.buckets.get(bucket.as_slice()).is_some() {
+        if self.buckets.get(made.bucket.bytes()).is_some() {
             return Ok(Reply::Refused(Code::BucketAlreadyOwnedByYou));
         }
-        let name = bucket.copy()?;
-        let made = NativeBucket::new(self.alloc, label.moment, acl);
-        self.buckets.put(bucket.as_slice(), made)?;
-        Ok(Reply::Made { bucket: name })
+        let name = made.bucket.copy_text()?;
+        let bucket = NativeBucket::new(self.alloc, label.moment, made.acl);
+        self.buckets.put(made.bucket.bytes(), bucket)?;
+        Ok(Reply::OfObjects(ObjectsReply::Made(name)))
     }
 
-    fn delete_bucket(&mut self, bucket: &Bytes, label: &Label) -> Reply
+    fn delete_bucket(&mut self, bucket: &BucketName, label: &Label) -> Reply
         ensures settings { self.new.settings ≡ self.old.settings }
-        ensures step { S3Step self.old.settings self.old.state (DeleteBucket bucket.now) label.now
-            result self.new.state }
+        ensures step { S3Step self.old.settings self.old.state (OnObjects (DeleteBucket bucket.now))
+            label.now result self.new.state }
     {
-        let Some(found) = self.buckets.get(bucket.as_slice()) else {
+        let Some(found) = self.buckets.get(bucket.bytes()) else {
             return Reply::Refused(Code::NoSuchBucket);
         };
         if !found.is_bare() {
             return Reply::Refused(Code::BucketNotEmpty);
         }
-        self.buckets.drop_at(bucket.as_slice());
+        self.buckets.drop_at(bucket.bytes());
         Reply::Gone
     }
 
-    fn head_bucket(&self, bucket: &Bytes, label: &Label) -> Reply
-        ensures { S3Step self.now.settings self.now.state (HeadBucket bucket.now) label.now result
-            self.now.state }
+    fn head_bucket(&self, bucket: &BucketName, label: &Label) -> Reply
+        ensures { S3Step self.now.settings self.now.state (OnObjects (HeadBucket bucket.now))
+            label.now
+            result self.now.state }
     {
-        let Some(found) = self.buckets.get(bucket.as_slice()) else {
+        let Some(found) = self.buckets.get(bucket.bytes()) else {
             return Reply::Refused(Code::NoSuchBucket);
         };
         if !found.may_be_read(label.caller) {
@@ -501,182 +501,169 @@ impl Native {
         Reply::Done
     }
 
-    fn get_location(&self, bucket: &Bytes, label: &Label) -> Result<Reply, Memory>
+    fn get_location(&self, bucket: &BucketName, label: &Label) -> Result<Reply, Memory>
         ensures { IfOk result (λ reply. S3Step self.now.settings self.now.state
-            (GetLocation bucket.now) label.now reply self.now.state) }
+            (OnObjects (GetLocation bucket.now)) label.now reply self.now.state) }
     {
-        if self.buckets.get(bucket.as_slice()).is_none() {
+        if self.buckets.get(bucket.bytes()).is_none() {
             return Ok(Reply::Refused(Code::NoSuchBucket));
         }
-        Ok(Reply::Location {
-            region: self.settings.region.copy()?,
-        })
+        let region = self.settings.region.copy()?;
+        Ok(Reply::OfObjects(ObjectsReply::Location(region)))
     }
 
-    fn get_bucket_acl(&self, bucket: &Bytes, label: &Label) -> Reply
-        ensures { S3Step self.now.settings self.now.state (GetBucketAcl bucket.now) label.now result
-            self.now.state }
+    fn get_bucket_acl(&self, bucket: &BucketName, label: &Label) -> Reply
+        ensures { S3Step self.now.settings self.now.state (OnObjects (GetBucketAcl bucket.now))
+            label.now
+            result self.now.state }
     {
-        match self.buckets.get(bucket.as_slice()) {
-            Some(found) => Reply::AclOf(found.acl()),
+        match self.buckets.get(bucket.bytes()) {
+            Some(found) => Reply::OfObjects(ObjectsReply::AclOf(found.acl())),
             None => Reply::Refused(Code::NoSuchBucket),
         }
     }
 
-    fn put_bucket_acl(&mut self, bucket: &Bytes, acl: Acl, label: &Label) -> Reply
+    fn put_bucket_acl(&mut self, set: &BucketAcl, label: &Label) -> Reply
         ensures settings { self.new.settings ≡ self.old.settings }
-        ensures step { S3Step self.old.settings self.old.state (PutBucketAcl bucket.now acl)
+        ensures step { S3Step self.old.settings self.old.state (OnObjects (PutBucketAcl set.now))
             label.now result self.new.state }
     {
-        if self.buckets.get(bucket.as_slice()).is_none() {
+        if self.buckets.get(set.bucket.bytes()).is_none() {
             return Reply::Refused(Code::NoSuchBucket);
         }
-        set_acl(&mut self.buckets, bucket.as_slice(), acl);
+        set_acl(&mut self.buckets, set.bucket.bytes(), set.acl);
         Reply::Done
     }
 
-    fn list_objects(&self, bucket: &Bytes, asked: &Asked, label: &Label) -> Result<Reply, Memory>
+    fn list_objects(&self, list: &ObjectListing, label: &Label) -> Result<Reply, Memory>
         ensures { IfOk result (λ reply. S3Step self.now.settings self.now.state
-            (ListObjects bucket.now asked.now) label.now reply self.now.state) }
+            (OnObjects (ListObjects list.now)) label.now reply self.now.state) }
     {
-        let Some(found) = self.buckets.get(bucket.as_slice()) else {
+        let Some(found) = self.buckets.get(list.bucket.bytes()) else {
             return Ok(Reply::Refused(Code::NoSuchBucket));
         };
         if !found.may_be_read(label.caller) {
             return Ok(Reply::Refused(Code::AccessDenied));
         }
+        let asked = list.asked.get();
         let (items, truncated) = found.listing(self.alloc, asked)?;
-        Ok(Reply::Objects {
-            bucket: bucket.copy()?,
+        Ok(Reply::OfObjects(ObjectsReply::Objects(ObjectPage {
+            bucket: list.bucket.copy_text()?,
             asked: asked.copy()?,
             items,
             truncated,
-        })
+        })))
     }
 
-    fn get_object_acl(&self, bucket: &Bytes, key: &Bytes, label: &Label) -> Reply
-        ensures { S3Step self.now.settings self.now.state (GetObjectAcl bucket.now key.now)
+    fn get_object_acl(&self, name: &ObjectName, label: &Label) -> Reply
+        ensures { S3Step self.now.settings self.now.state (OnObjects (GetObjectAcl name.now))
             label.now result self.now.state }
     {
-        let Some(found) = self.buckets.get(bucket.as_slice()) else {
+        let Some(found) = self.buckets.get(name.bucket.bytes()) else {
             return Reply::Refused(Code::NoSuchBucket);
         };
-        if found.object(key.as_slice()).is_none() {
+        if found.object(name.key.bytes()).is_none() {
             return Reply::Refused(Code::NoSuchKey);
         }
-        Reply::AclOf(found.acl())
+        Reply::OfObjects(ObjectsReply::AclOf(found.acl()))
     }
 
     /// Where memory runs out, the state is as before.
-    fn put_object(
-        &mut self,
-        bucket: &Bytes,
-        key: &Bytes,
-        acl: Option<Acl>,
-        content_type: &Bytes,
-        meta: &Meta,
-        body: &Body,
-        label: &Label,
-    ) -> Result<Reply, Memory>
+    fn put_object(&mut self, put: &ObjectPut, label: &Label) -> Result<Reply, Memory>
         ensures settings { self.new.settings ≡ self.old.settings }
         ensures ok { IfOk result (λ reply. S3Step self.old.settings self.old.state
-            (PutObject bucket.now key.now acl content_type.now meta.now body.now) label.now reply
-            self.new.state) }
+            (OnObjects (PutObject put.now)) label.now reply self.new.state) }
         ensures err { OnErr result (self.new.state ≡ self.old.state) }
     {
-        let Some(found) = self.buckets.get(bucket.as_slice()) else {
+        let Some(found) = self.buckets.get(put.bucket.bytes()) else {
             return Ok(Reply::Refused(Code::NoSuchBucket));
         };
-        if found.has_another_acl(acl) {
+        if found.has_another_acl(put.acl) {
             return Ok(Reply::Refused(Code::NotImplemented));
         }
-        let object = NativeObject::new(self.alloc, label.moment, content_type, meta, body)?;
+        if let Some(code) = found.refuses(put.key.bytes(), &put.only_if) {
+            return Ok(Reply::Refused(code));
+        }
+        let object = NativeObject::new(self.alloc, label.moment, put.content.get())?;
         let etag = object.etag.copy()?;
-        put_object(&mut self.buckets, bucket.as_slice(), key.as_slice(), object)?;
-        Ok(Reply::Stored { etag })
+        put_object(
+            &mut self.buckets,
+            put.bucket.bytes(),
+            put.key.bytes(),
+            object,
+        )?;
+        Ok(Reply::Stored(etag))
     }
 
-    fn get_object(
-        &self,
-        bucket: &Bytes,
-        key: &Bytes,
-        range: Option<Range>,
-        conditions: &Conditions,
-        label: &Label,
-    ) -> Result<Reply, Memory>
+    fn get_object(&self, read: &ObjectRead, label: &Label) -> Result<Reply, Memory>
         ensures { IfOk result (λ reply. S3Step self.now.settings self.now.state
-            (GetObject bucket.now key.now range conditions.now) label.now reply self.now.state) }
+            (GetObject read.now) label.now reply self.now.state) }
     {
-        let Some(found) = self.buckets.get(bucket.as_slice()) else {
+        let Some(found) = self.buckets.get(read.bucket.bytes()) else {
             return Ok(Reply::Refused(Code::NoSuchBucket));
         };
         if !found.may_be_read(label.caller) {
             return Ok(Reply::Refused(Code::AccessDenied));
         }
-        let Some(object) = found.object(key.as_slice()) else {
+        let Some(object) = found.object(read.key.bytes()) else {
             return Ok(Reply::Refused(Code::NoSuchKey));
         };
-        object.got(self.alloc, range, conditions)
+        object.got(self.alloc, read.range, &read.conditions)
     }
 
-    fn head_object(
-        &self,
-        bucket: &Bytes,
-        key: &Bytes,
-        range: Option<Range>,
-        conditions: &Conditions,
-        label: &Label,
-    ) -> Result<Reply, Memory>
+    fn head_object(&self, read: &ObjectRead, label: &Label) -> Result<Reply, Memory>
         ensures { IfOk result (λ reply. S3Step self.now.settings self.now.state
-            (HeadObject bucket.now key.now range conditions.now) label.now reply self.now.state) }
+            (OnObjects (HeadObject read.now)) label.now reply self.now.state) }
     {
-        let Some(found) = self.buckets.get(bucket.as_slice()) else {
+        let Some(found) = self.buckets.get(read.bucket.bytes()) else {
             return Ok(Reply::Refused(Code::NoSuchBucket));
         };
         if !found.may_be_read(label.caller) {
             return Ok(Reply::Refused(Code::AccessDenied));
         }
-        let Some(object) = found.object(key.as_slice()) else {
+        let Some(object) = found.object(read.key.bytes()) else {
             return Ok(Reply::Refused(Code::NoSuchKey));
         };
-        object.headed(self.alloc, range, conditions)
+        object.headed(self.alloc, read.range, &read.conditions)
     }
 
-    fn delete_object(&mut self, bucket: &Bytes, key: &Bytes, label: &Label) -> Result<Reply, Memory>
+    fn delete_object(&mut self, deletion: &ObjectDeletion, label: &Label) -> Reply
         ensures settings { self.new.settings ≡ self.old.settings }
-        ensures ok { IfOk result (λ reply. S3Step self.old.settings self.old.state
-            (DeleteObject bucket.now key.now) label.now reply self.new.state) }
-        ensures err { OnErr result (self.new.state ≡ self.old.state) }
+        ensures step { S3Step self.old.settings self.old.state (OnObjects (DeleteObject
+            deletion.now))
+            label.now result self.new.state }
     {
-        if self.buckets.get(bucket.as_slice()).is_none() {
-            return Ok(Reply::Refused(Code::NoSuchBucket));
+        let Some(found) = self.buckets.get(deletion.bucket.bytes()) else {
+            return Reply::Refused(Code::NoSuchBucket);
+        };
+        if let Some(code) = found.refuses(deletion.key.bytes(), &deletion.only_if) {
+            return Reply::Refused(code);
         }
-        drop_native_object(&mut self.buckets, bucket.as_slice(), key.as_slice());
-        Ok(Reply::Gone)
+        drop_native_object(
+            &mut self.buckets,
+            deletion.bucket.bytes(),
+            deletion.key.bytes(),
+        );
+        Reply::Gone
     }
 
     /// Where memory runs out, the state is as before.
-    fn delete_objects(
-        &mut self,
-        bucket: &Bytes,
-        keys: &List<Bytes>,
-        quiet: bool,
-        label: &Label,
-    ) -> Result<Reply, Memory>
+    fn delete_objects(&mut self, many: &ObjectsDeletion, label: &Label) -> Result<Reply, Memory>
         ensures settings { self.new.settings ≡ self.old.settings }
         ensures ok { IfOk result (λ reply. S3Step self.old.settings self.old.state
-            (DeleteObjects bucket.now keys.now quiet) label.now reply self.new.state) }
+            (OnObjects (DeleteObjects many.now)) label.now reply self.new.state) }
         ensures err { OnErr result (self.new.state ≡ self.old.state) }
     {
-        if self.buckets.get(bucket.as_slice()).is_none() {
+        if self.buckets.get(many.bucket.bytes()).is_none() {
             return Ok(Reply::Refused(Code::NoSuchBucket));
         }
         // What may fail comes before the first key is dropped.
+        let keys = many.keys.get();
         let deleted = keys.copy()?;
-        drop_native_objects(&mut self.buckets, bucket.as_slice(), keys.as_slice());
-        Ok(Reply::Deleted {
+        drop_native_objects(&mut self.buckets, many.bucket.bytes(), keys.as_slice());
+        Ok(Reply::OfObjects(ObjectsReply::Deleted(DeletedKeys {
             keys: deleted,
-            quiet,
-        })
+            quiet: many.quiet,
+        })))
     }
 }

@@ -11,8 +11,8 @@ use crate::listing::{first_native_items, is_native_listing_cut};
 use crate::native::NativeObject;
 use crate::numbered::Numbered;
 use gate_base::{Bytes, Copying, List, Memory};
-use s3_machine::{Body, Code, Listed, PartItem, rises, upload_etag};
-use s3_names::Meta;
+use s3_machine::{Body, Code, Described, Listed, PartItem, rises, upload_etag};
+use s3_names::{Key, Meta};
 use std::alloc::Global;
 use std::marker::Model;
 
@@ -171,18 +171,18 @@ impl Model for NativeUpload {
 impl NativeUpload {
     pub(crate) fn new(
         alloc: Global,
-        key: &Bytes,
-        content_type: &Bytes,
-        meta: &Meta,
+        key: &Key,
+        described: &Described,
         started: u64,
     ) -> Result<NativeUpload, Memory>
         ensures { IfOk result
-            (λ made. made ≡ new_upload key.now content_type.now meta.now started) }
+            (λ made. made ≡ new_upload key.now described.now.content_type described.now.meta
+            started) }
     {
         Ok(NativeUpload {
-            key: key.copy()?,
-            content_type: content_type.copy()?,
-            meta: meta.copy()?,
+            key: key.copy_text()?,
+            content_type: described.content_type.copy()?,
+            meta: described.meta.copy()?,
             started,
             parts: Numbered::new(alloc),
         })

@@ -3,14 +3,8 @@ ghost use Rattle.std.specs.Prelude.{◌≡◌, map, IfOk, IfSome, IsTrue, false,
 ghost use Rattle.std.specs.FinMap.{entries, from_entries, get};
 ghost use Rattle.std.specs.List.{filter};
 ghost use Rattle.gate_base.specs.Maps.{adjust, name_cmp};
-ghost use Rattle.s3_machine.specs.declared.operation.Op.TheVariants.{
-  ListUploads,
-  CreateUpload,
-  UploadPart,
-  ListParts,
-  CompleteUpload,
-  AbortUpload,
-};
+ghost use Rattle.s3_machine.specs.declared.operation.Op.TheVariants.{OnUploads};
+ghost use Rattle.s3_machine.specs.declared.operation.UploadsOp.TheVariants.{ListUploads, CreateUpload, UploadPart, ListParts, CompleteUpload, AbortUpload};
 ghost use Rattle.s3_machine.specs.ETag.{body_etag};
 ghost use Rattle.s3_machine.specs.State.{Bucket};
 ghost use Rattle.s3_machine.specs.Step.{IsNewId, S3Step};
@@ -39,8 +33,12 @@ use crate::native::{Native, NativeBucket, NativeObject};
 use crate::upload::{NativePart, NativeUpload};
 use gate_base::{Bytes, Copying, List, Memory};
 use name_table::Table;
-use s3_machine::{Body, Code, Label, Listed, Op, Reply, UploadItem, begins};
-use s3_names::{Acl, Meta, id_digits, read_id_digits};
+use s3_machine::{
+    Body, Code, CompletedObject, Label, Listed, PartListing, PartNumber, PartPage, PartPut,
+    PartsAsked, Reply, StartedUpload, UploadCompletion, UploadItem, UploadListing, UploadName,
+    UploadPage, UploadStart, UploadsOp, UploadsReply, begins,
+};
+use s3_names::{BucketName, id_digits, read_id_digits};
 use std::alloc::Global;
 
 /// How many ids are tried for a new upload. All of them are taken only where there are as many uploads.
@@ -330,309 +328,239 @@ fn close_native_upload(
 }
 
 impl Native {
-    /// A step of an operation on uploads. It is asked for no other one; such a one ends as where memory runs out.
-    pub(crate) fn step_upload(&mut self, op: &Op, label: &Label) -> Result<Reply, Memory>
+    /// A step of an operation on uploads.
+    pub(crate) fn step_upload(&mut self, op: &UploadsOp, label: &Label) -> Result<Reply, Memory>
         ensures settings { self.new.settings ≡ self.old.settings }
-        ensures ok { IfOk result (λ reply. S3Step self.old.settings self.old.state op.now label.now
+        ensures ok { IfOk result (λ reply. S3Step self.old.settings self.old.state
+            (OnUploads op.now) label.now
             reply self.new.state) }
-        ensures first { GivesFirstId self.old.state op.now label.now result }
+        ensures first { GivesFirstId self.old.state (OnUploads op.now) label.now result }
         ensures err { OnErr result (self.new.state ≡ self.old.state) }
     {
         match op {
-            Op::ListUploads {
-                bucket,
-                prefix,
-                key_marker,
-                id_marker,
-                max,
-                url,
-            } => self.list_uploads(bucket, prefix, key_marker, id_marker, *max, *url, label),
-            Op::CreateUpload {
-                bucket,
-                key,
-                acl,
-                content_type,
-                meta,
-            } => self.create_upload(bucket, key, *acl, content_type, meta, label),
-            Op::UploadPart {
-                bucket,
-                key,
-                id,
-                number,
-                body,
-            } => self.upload_part(bucket, key, id, *number, body, label),
-            Op::ListParts {
-                bucket,
-                key,
-                id,
-                marker,
-                max,
-            } => self.list_parts(bucket, key, id, *marker, *max, label),
-            Op::CompleteUpload {
-                bucket,
-                key,
-                id,
-                list,
-            } => self.complete_upload(bucket, key, id, list, label),
-            Op::AbortUpload { bucket, key, id } => Ok(self.abort_upload(bucket, key, id, label)),
-            _ => Err(Memory),
+            UploadsOp::ListUploads(list) => self.list_uploads(list, label),
+            UploadsOp::CreateUpload(start) => self.create_upload(start, label),
+            UploadsOp::UploadPart(part) => self.upload_part(part, label),
+            UploadsOp::ListParts(list) => self.list_parts(list, label),
+            UploadsOp::CompleteUpload(done) => self.complete_upload(done, label),
+            UploadsOp::AbortUpload(upload) => Ok(self.abort_upload(upload, label)),
         }
     }
 
-    fn list_uploads(
-        &self,
-        bucket: &Bytes,
-        prefix: &Bytes,
-        key_marker: &Bytes,
-        id_marker: &Bytes,
-        max: u32,
-        url: bool,
-        label: &Label,
-    ) -> Result<Reply, Memory>
+    fn list_uploads(&self, list: &UploadListing, label: &Label) -> Result<Reply, Memory>
         ensures { IfOk result (λ reply. S3Step self.now.settings self.now.state
-            (ListUploads bucket.now prefix.now key_marker.now id_marker.now max url) label.now reply
-            self.now.state) }
+            (OnUploads (ListUploads list.now)) label.now reply self.now.state) }
     {
-        let Some(found) = self.buckets.get(bucket.as_slice()) else {
+        let Some(found) = self.buckets.get(list.bucket.bytes()) else {
             return Ok(Reply::Refused(Code::NoSuchBucket));
         };
+        let asked = list.asked.get();
         let (items, truncated) = native_listed_uploads(
             &found.uploads,
             self.alloc,
-            prefix.as_slice(),
-            key_marker.as_slice(),
-            id_marker.as_slice(),
-            max,
+            asked.prefix.as_slice(),
+            asked.key_marker.as_slice(),
+            asked.id_marker.as_slice(),
+            asked.max,
         )?;
-        Ok(Reply::Uploads {
-            bucket: bucket.copy()?,
-            prefix: prefix.copy()?,
-            key_marker: key_marker.copy()?,
-            id_marker: id_marker.copy()?,
-            max,
-            url,
+        Ok(Reply::OfUploads(UploadsReply::Uploads(UploadPage {
+            bucket: list.bucket.copy_text()?,
+            asked: asked.copy()?,
             items,
             truncated,
-        })
+        })))
     }
 
     /// Where memory runs out, the state is as before.
     #[tactic(auto, using(crate::proofs::Completing::starts_flat, crate::proofs::NewIds::first_in, s3_machine::proofs::lemmas::StepLemmas::start_with_another_acl))]
-    fn create_upload(
-        &mut self,
-        bucket: &Bytes,
-        key: &Bytes,
-        acl: Option<Acl>,
-        content_type: &Bytes,
-        meta: &Meta,
-        label: &Label,
-    ) -> Result<Reply, Memory>
+    fn create_upload(&mut self, start: &UploadStart, label: &Label) -> Result<Reply, Memory>
         ensures settings { self.new.settings ≡ self.old.settings }
         ensures ok { IfOk result (λ reply. S3Step self.old.settings self.old.state
-            (CreateUpload bucket.now key.now acl content_type.now meta.now) label.now reply
-            self.new.state) }
-        ensures first { GivesFirstId self.old.state
-            (CreateUpload bucket.now key.now acl content_type.now meta.now) label.now result }
+            (OnUploads (CreateUpload start.now)) label.now reply self.new.state) }
+        ensures first { GivesFirstId self.old.state (OnUploads (CreateUpload start.now)) label.now
+            result }
         ensures err { OnErr result (self.new.state ≡ self.old.state) }
     {
-        let Some(found) = self.buckets.get(bucket.as_slice()) else {
+        let Some(found) = self.buckets.get(start.bucket.bytes()) else {
             return Ok(Reply::Refused(Code::NoSuchBucket));
         };
-        if found.has_another_acl(acl) {
+        if found.has_another_acl(start.acl) {
             return Ok(Reply::Refused(Code::NotImplemented));
         }
         let Some(id) = found.new_id(label.draw) else {
             return Err(Memory);
         };
-        let name = bucket.copy()?;
-        let at = key.copy()?;
-        let upload = NativeUpload::new(self.alloc, key, content_type, meta, label.moment)?;
+        let bucket = start.bucket.copy_text()?;
+        let key = start.key.copy_text()?;
+        let upload = NativeUpload::new(
+            self.alloc,
+            &start.key,
+            start.described.get(),
+            label.moment,
+        )?;
         let digits = id_digits(id);
-        open_upload(&mut self.buckets, bucket.as_slice(), &digits, upload)?;
-        Ok(Reply::Started {
-            bucket: name,
-            key: at,
-            id,
-        })
+        open_upload(&mut self.buckets, start.bucket.bytes(), &digits, upload)?;
+        Ok(Reply::OfUploads(UploadsReply::Started(StartedUpload { bucket, key, id })))
     }
 
     /// Where memory runs out, the state is as before.
-    fn upload_part(
-        &mut self,
-        bucket: &Bytes,
-        key: &Bytes,
-        id: &Bytes,
-        number: u32,
-        body: &Body,
-        label: &Label,
-    ) -> Result<Reply, Memory>
+    fn upload_part(&mut self, part: &PartPut, label: &Label) -> Result<Reply, Memory>
         ensures settings { self.new.settings ≡ self.old.settings }
         ensures ok { IfOk result (λ reply. S3Step self.old.settings self.old.state
-            (UploadPart bucket.now key.now id.now number body.now) label.now reply self.new.state) }
+            (OnUploads (UploadPart part.now)) label.now reply self.new.state) }
         ensures err { OnErr result (self.new.state ≡ self.old.state) }
     {
-        let Some(found) = self.buckets.get(bucket.as_slice()) else {
+        let Some(found) = self.buckets.get(part.bucket.bytes()) else {
             return Ok(Reply::Refused(Code::NoSuchBucket));
         };
-        let Some(upload) = found.uploads.get(id.as_slice()) else {
+        let Some(upload) = found.uploads.get(part.id.as_slice()) else {
             return Ok(Reply::Refused(Code::NoSuchUpload));
         };
-        if !upload.is_of(key.as_slice()) {
+        if !upload.is_of(part.key.bytes()) {
             return Ok(Reply::Refused(Code::NoSuchUpload));
         }
-        let etag = self.put_body(bucket, id, number, body, label.moment)?;
-        Ok(Reply::Stored { etag })
+        let etag = self.put_body(&part.bucket, &part.id, part.number, part.body.get(), label)?;
+        Ok(Reply::Stored(etag))
     }
 
     /// Puts a part of these bytes into an upload, and gives its ETag. Where memory runs out, the state is as before.
     pub(crate) fn put_body(
         &mut self,
-        bucket: &Bytes,
+        bucket: &BucketName,
         id: &Bytes,
-        number: u32,
+        number: PartNumber,
         body: &Body,
-        moment: u64,
+        label: &Label,
     ) -> Result<Bytes, Memory>
         ensures settings { self.new.settings ≡ self.old.settings }
         ensures etag { IfOk result (λ etag. etag ≡ body_etag body.now) }
         ensures ok { OnOk result (self.new.state ≡ adjust bucket.now
-            (on_upload id.now (with_part number (new_part moment body.now))) self.old.state) }
+            (on_upload id.now (with_part number (new_part label.now.moment body.now)))
+            self.old.state) }
         ensures err { OnErr result (self.new.state ≡ self.old.state) }
     {
-        let part = NativePart::new(self.alloc, moment, body)?;
+        let part = NativePart::new(self.alloc, label.moment, body)?;
         let etag = part.etag()?;
         put_part(
             &mut self.buckets,
-            bucket.as_slice(),
+            bucket.bytes(),
             id.as_slice(),
-            number,
+            number.get(),
             part,
         )?;
         Ok(etag)
     }
 
-    fn list_parts(
-        &self,
-        bucket: &Bytes,
-        key: &Bytes,
-        id: &Bytes,
-        marker: u32,
-        max: u32,
-        label: &Label,
-    ) -> Result<Reply, Memory>
+    fn list_parts(&self, list: &PartListing, label: &Label) -> Result<Reply, Memory>
         ensures { IfOk result (λ reply. S3Step self.now.settings self.now.state
-            (ListParts bucket.now key.now id.now marker max) label.now reply self.now.state) }
+            (OnUploads (ListParts list.now)) label.now reply self.now.state) }
     {
-        let Some(found) = self.buckets.get(bucket.as_slice()) else {
+        let Some(found) = self.buckets.get(list.bucket.bytes()) else {
             return Ok(Reply::Refused(Code::NoSuchBucket));
         };
-        let Some(upload) = found.uploads.get(id.as_slice()) else {
+        let Some(upload) = found.uploads.get(list.id.as_slice()) else {
             return Ok(Reply::Refused(Code::NoSuchUpload));
         };
-        if !upload.is_of(key.as_slice()) {
+        if !upload.is_of(list.key.bytes()) {
             return Ok(Reply::Refused(Code::NoSuchUpload));
         }
-        let (items, truncated) = upload.listed_parts(self.alloc, marker, max)?;
-        Ok(Reply::Parts {
-            bucket: bucket.copy()?,
-            key: key.copy()?,
-            id: native_upload_id_value(id.as_slice()),
-            marker,
-            max,
+        let asked = list.asked.get();
+        let (items, truncated) = upload.listed_parts(self.alloc, asked.marker, asked.max)?;
+        Ok(Reply::OfUploads(UploadsReply::Parts(PartPage {
+            bucket: list.bucket.copy_text()?,
+            key: list.key.copy_text()?,
+            id: native_upload_id_value(list.id.as_slice()),
+            asked: PartsAsked {
+                marker: asked.marker,
+                max: asked.max,
+            },
             items,
             truncated,
-        })
+        })))
     }
 
-    fn abort_upload(&mut self, bucket: &Bytes, key: &Bytes, id: &Bytes, label: &Label) -> Reply
+    fn abort_upload(&mut self, upload: &UploadName, label: &Label) -> Reply
         ensures settings { self.new.settings ≡ self.old.settings }
         ensures step { S3Step self.old.settings self.old.state
-            (AbortUpload bucket.now key.now id.now) label.now result self.new.state }
+            (OnUploads (AbortUpload upload.now)) label.now result self.new.state }
     {
-        let Some(found) = self.buckets.get(bucket.as_slice()) else {
+        let Some(found) = self.buckets.get(upload.bucket.bytes()) else {
             return Reply::Refused(Code::NoSuchBucket);
         };
-        let Some(upload) = found.uploads.get(id.as_slice()) else {
+        let Some(open) = found.uploads.get(upload.id.as_slice()) else {
             return Reply::Refused(Code::NoSuchUpload);
         };
-        if !upload.is_of(key.as_slice()) {
+        if !open.is_of(upload.key.bytes()) {
             return Reply::Refused(Code::NoSuchUpload);
         }
-        drop_native_upload(&mut self.buckets, bucket.as_slice(), id.as_slice());
+        drop_native_upload(
+            &mut self.buckets,
+            upload.bucket.bytes(),
+            upload.id.as_slice(),
+        );
         Reply::Gone
     }
 
     /// A completion that is kept is answered again. Where memory runs out, the state is as before.
-    fn complete_upload(
-        &mut self,
-        bucket: &Bytes,
-        key: &Bytes,
-        id: &Bytes,
-        list: &List<Listed>,
-        label: &Label,
-    ) -> Result<Reply, Memory>
+    fn complete_upload(&mut self, done: &UploadCompletion, label: &Label) -> Result<Reply, Memory>
         ensures settings { self.new.settings ≡ self.old.settings }
         ensures ok { IfOk result (λ reply. S3Step self.old.settings self.old.state
-            (CompleteUpload bucket.now key.now id.now list.now) label.now reply self.new.state) }
+            (OnUploads (CompleteUpload done.now)) label.now reply self.new.state) }
         ensures err { OnErr result (self.new.state ≡ self.old.state) }
     {
-        let Some(found) = self.buckets.get(bucket.as_slice()) else {
+        let Some(found) = self.buckets.get(done.bucket.bytes()) else {
             return Ok(Reply::Refused(Code::NoSuchBucket));
         };
-        match found.repeated(key.as_slice(), id.as_slice(), list.as_slice())? {
-            Some(etag) => Ok(Reply::Completed {
-                bucket: bucket.copy()?,
-                key: key.copy()?,
+        match found.repeated(
+            done.key.bytes(),
+            done.id.as_slice(),
+            done.list.get().as_slice(),
+        )? {
+            Some(etag) => Ok(Reply::OfUploads(UploadsReply::Completed(CompletedObject {
+                bucket: done.bucket.copy_text()?,
+                key: done.key.copy_text()?,
                 etag,
-            }),
-            None => self.complete_open(bucket, key, id, list, label),
+            }))),
+            None => self.complete_open(done, label),
         }
     }
 
     /// A completion that isn't kept.
-    #[tactic(auto, using(crate::proofs::Completing::completes_flat, crate::proofs::Completing::refuses_flat))]
-    fn complete_open(
-        &mut self,
-        bucket: &Bytes,
-        key: &Bytes,
-        id: &Bytes,
-        list: &List<Listed>,
-        label: &Label,
-    ) -> Result<Reply, Memory>
-        requires { (b : Bucket) → get self.now.state bucket.now ≡ Some b
-            → kept_as key.now list.now (get b.kept id.now) ≡ None }
+    fn complete_open(&mut self, done: &UploadCompletion, label: &Label) -> Result<Reply, Memory>
+        requires { (b : Bucket) → get self.now.state done.now.bucket ≡ Some b
+            → kept_as done.now.key done.now.list (get b.kept done.now.id) ≡ None }
         ensures settings { self.new.settings ≡ self.old.settings }
         ensures ok { IfOk result (λ reply. S3Step self.old.settings self.old.state
-            (CompleteUpload bucket.now key.now id.now list.now) label.now reply self.new.state) }
+            (OnUploads (CompleteUpload done.now)) label.now reply self.new.state) }
         ensures err { OnErr result (self.new.state ≡ self.old.state) }
     {
-        let Some(found) = self.buckets.get(bucket.as_slice()) else {
+        let list = done.list.get();
+        let Some(found) = self.buckets.get(done.bucket.bytes()) else {
             return Ok(Reply::Refused(Code::NoSuchBucket));
         };
-        let Some(upload) = found.uploads.get(id.as_slice()) else {
+        let Some(upload) = found.uploads.get(done.id.as_slice()) else {
             return Ok(Reply::Refused(Code::NoSuchUpload));
         };
-        if !upload.is_of(key.as_slice()) {
+        if !upload.is_of(done.key.bytes()) {
             return Ok(Reply::Refused(Code::NoSuchUpload));
         }
         if let Some(code) = upload.refuses(self.settings.least_part, list.as_slice()) {
             return Ok(Reply::Refused(code));
         }
-        let name = bucket.copy()?;
-        let at = key.copy()?;
+        if let Some(code) = found.refuses(done.key.bytes(), &done.only_if) {
+            return Ok(Reply::Refused(code));
+        }
+        let bucket = done.bucket.copy_text()?;
+        let key = done.key.copy_text()?;
         let (etag, object, kept) = upload.completed(self.alloc, list, label.moment)?;
         close_native_upload(
             &mut self.buckets,
-            bucket.as_slice(),
-            key.as_slice(),
-            id.as_slice(),
+            done.bucket.bytes(),
+            done.key.bytes(),
+            done.id.as_slice(),
             object,
             kept,
         )?;
-        Ok(Reply::Completed {
-            bucket: name,
-            key: at,
-            etag,
-        })
+        Ok(Reply::OfUploads(UploadsReply::Completed(CompletedObject { bucket, key, etag })))
     }
 }

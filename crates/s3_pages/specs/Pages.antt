@@ -1,4 +1,8 @@
 -- The page of each reply. Source: Amazon S3 API Reference, and RFC 9110 for the headers that are not S3's own.
+use Rattle.s3_machine.specs.declared.operation.Reply.TheVariants.{OfObjects, OfUploads}
+use Rattle.s3_machine.specs.declared.operation.Reply.TheVariants as reply_as
+use Rattle.s3_machine.specs.declared.operation.ObjectsReply.TheVariants as objects_reply
+use Rattle.s3_machine.specs.declared.operation.UploadsReply.TheVariants as uploads_reply
 use Rattle.std.specs.Prelude.{ℕ, ◌+◌, ◌-◌, Bool, true, false, if◌then◌else◌, List, [], ◌∷◌, ◌++◌, map, drop, codes, decimal}
 use Rattle.gate_base.specs.declared.page.Page.{Page}
 use Rattle.gate_base.specs.declared.page.Pair.{Pair}
@@ -6,26 +10,8 @@ use Rattle.s3_machine.specs.declared.code.Code.{Code}
 use Rattle.s3_machine.specs.declared.operation.Label.{Label}
 use Rattle.s3_machine.specs.declared.operation.ObjectHead.{ObjectHead}
 use Rattle.s3_machine.specs.declared.operation.Reply.{Reply}
-use Rattle.s3_machine.specs.declared.operation.Reply.TheVariants.{
-  Refused,
-  Memory,
-  Done,
-  Gone,
-  NotModified,
-  Buckets,
-  Made,
-  Location,
-  AclOf,
-  Objects,
-  Uploads,
-  Stored,
-  Object,
-  Started,
-  Parts,
-  Completed,
-  Deleted,
-  Copied,
-}
+use Rattle.s3_machine.specs.declared.operation.Reply.TheVariants.{Refused, Memory, Done, Gone, NotModified, Stored}
+use Rattle.s3_machine.specs.Replies.{Location}
 use Rattle.s3_machine.specs.Limits.{is_own_name}
 use Rattle.s3_pages.specs.Codes.{status_of}
 use Rattle.s3_pages.specs.Date.{http_date}
@@ -123,17 +109,17 @@ page_of Memory label resource = record { status = 500; headers = []; body = [] }
 page_of Done label resource = done_page label
 page_of Gone label resource = gone_page label
 page_of (NotModified head) label resource = not_modified_page head label
-page_of (Buckets items) label resource = xml_page 200 (buckets_body items) label
-page_of (Made bucket) label resource = made_page bucket label
-page_of (Location region) label resource = xml_page 200 (location_body region) label
-page_of (AclOf acl) label resource = xml_page 200 (acl_body acl) label
-page_of (Objects bucket asked items truncated) label resource = xml_page 200 (objects_body bucket asked items truncated) label
-page_of (Uploads bucket prefix key_marker id_marker max url items truncated) label resource =
-    xml_page 200 (uploads_body bucket prefix key_marker id_marker max url items truncated) label
+page_of (OfObjects (objects_reply.Buckets items)) label resource = xml_page 200 (buckets_body items) label
+page_of (OfObjects (objects_reply.Made bucket)) label resource = made_page bucket label
+page_of (OfObjects (objects_reply.Location region)) label resource = xml_page 200 (location_body region) label
+page_of (OfObjects (objects_reply.AclOf acl)) label resource = xml_page 200 (acl_body acl) label
+page_of (OfObjects (objects_reply.Objects page)) label resource = xml_page 200 (objects_body page.bucket page.asked page.items page.truncated) label
+page_of (OfUploads (uploads_reply.Uploads page)) label resource =
+    xml_page 200 (uploads_body page.bucket page.asked.prefix page.asked.key_marker page.asked.id_marker page.asked.max page.asked.url page.items page.truncated) label
 page_of (Stored etag) label resource = stored_page etag label
-page_of (Object head from length partial body) label resource = object_page head from length partial body label
-page_of (Started bucket key id) label resource = xml_page 200 (started_body bucket key id) label
-page_of (Parts bucket key id marker max items truncated) label resource = xml_page 200 (parts_body bucket key id marker max items truncated) label
-page_of (Completed bucket key etag) label resource = xml_page 200 (completed_body bucket key etag) label
-page_of (Deleted keys quiet) label resource = xml_page 200 (deleted_body keys quiet) label
-page_of (Copied part etag modified) label resource = xml_page 200 (copied_body part etag modified) label
+page_of (reply_as.Object object) label resource = object_page object.head object.from object.length object.partial object.body label
+page_of (OfUploads (uploads_reply.Started started)) label resource = xml_page 200 (started_body started.bucket started.key started.id) label
+page_of (OfUploads (uploads_reply.Parts page)) label resource = xml_page 200 (parts_body page.bucket page.key page.id page.asked.marker page.asked.max page.items page.truncated) label
+page_of (OfUploads (uploads_reply.Completed completed)) label resource = xml_page 200 (completed_body completed.bucket completed.key completed.etag) label
+page_of (OfObjects (objects_reply.Deleted deleted)) label resource = xml_page 200 (deleted_body deleted.keys deleted.quiet) label
+page_of (reply_as.Copied copied) label resource = xml_page 200 (copied_body copied.part copied.etag copied.modified) label

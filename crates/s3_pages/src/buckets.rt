@@ -1,7 +1,6 @@
 //! The pages of the replies on buckets and access control lists.
 ghost use Rattle.std.specs.Prelude.{◌≡◌, ◌<◌, ◌++◌, IfOk, OnOk};
 ghost use Rattle.std.specs.List.{All, flat_map};
-ghost use Rattle.gate_base.specs.Told.{moment_limit};
 ghost use Rattle.s3_machine.specs.Shown.{IsShownBucket};
 ghost use Rattle.s3_pages.specs.Bodies.{acl_body, bucket_element, buckets_body, location_body, public_grant, region_in_location_page};
 ghost use Rattle.s3_pages.specs.Pages.{xml_page};
@@ -20,7 +19,6 @@ pub(crate) fn buckets_reply_page(
     label: &Label,
 ) -> Result<Page, Memory>
     requires dated { All IsShownBucket items.now }
-    requires moment { label.now.moment < moment_limit }
     ensures { IfOk result (λ page. page ≡ xml_page 200 (buckets_body items.now) label.now) }
 {
     Ok(Page {
@@ -51,7 +49,6 @@ pub(crate) fn location_reply_page(
     region: &[u8],
     label: &Label,
 ) -> Result<Page, Memory>
-    requires { label.now.moment < moment_limit }
     ensures { IfOk result (λ page. page ≡ xml_page 200 (location_body region.now) label.now) }
 {
     Ok(Page {
@@ -85,7 +82,6 @@ fn region_in_location_page(region: &[u8]) -> &[u8]
 
 /// The page of GetBucketAcl and GetObjectAcl.
 pub(crate) fn acl_reply_page(alloc: Global, list: Acl, label: &Label) -> Result<Page, Memory>
-    requires { label.now.moment < moment_limit }
     ensures { IfOk result (λ page. page ≡ xml_page 200 (acl_body list) label.now) }
 {
     Ok(Page {

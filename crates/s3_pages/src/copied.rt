@@ -6,34 +6,33 @@ ghost use Rattle.s3_pages.specs.Pages.{xml_page};
 use crate::pages::xml_headers;
 use crate::xml::Xml;
 use gate_base::{Bytes, Memory, Page};
-use s3_machine::Label;
+use s3_machine::{CopiedBytes, Label};
 use std::alloc::Global;
 
 /// The page of CopyObject and CopyPart.
 pub(crate) fn copied_reply_page(
     alloc: Global,
-    part: bool,
-    etag: &[u8],
-    modified: u64,
+    copied: &CopiedBytes,
     label: &Label,
 ) -> Result<Page, Memory>
-    requires dated { modified < moment_limit }
-    requires moment { label.now.moment < moment_limit }
-    ensures { IfOk result
-        (λ page. page ≡ xml_page 200 (copied_body part etag.now modified) label.now) }
+    requires dated { copied.now.modified < moment_limit }
+    ensures { IfOk result (λ page. page ≡ xml_page 200
+        (copied_body copied.now.part copied.now.etag copied.now.modified) label.now) }
 {
     Ok(Page {
         status: 200,
         headers: xml_headers(alloc, label)?,
-        body: copied_body(alloc, part, etag, modified)?,
+        body: copied_body(alloc, copied)?,
     })
 }
 
-fn copied_body(alloc: Global, part: bool, etag: &[u8], modified: u64) -> Result<Bytes, Memory>
-    requires { modified < moment_limit }
-    ensures { IfOk result (λ body. body ≡ copied_body part etag.now modified) }
+fn copied_body(alloc: Global, copied: &CopiedBytes) -> Result<Bytes, Memory>
+    requires { copied.now.modified < moment_limit }
+    ensures { IfOk result
+        (λ body. body ≡ copied_body copied.now.part copied.now.etag copied.now.modified) }
 {
-    copied_body_under_root(alloc, copied_body_root(part), etag, modified)
+    let root = copied_body_root(copied.part);
+    copied_body_under_root(alloc, root, copied.etag.as_slice(), copied.modified)
 }
 
 #[tactic(auto, unfolding(crate::specs::Bodies::copied_as))]

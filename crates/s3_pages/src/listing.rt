@@ -1,7 +1,6 @@
 //! The page of a listing of objects.
 ghost use Rattle.std.specs.Prelude.{◌≡◌, ◌<◌, ◌++◌, IfOk, OnOk, codes};
 ghost use Rattle.std.specs.List.{All, flat_map};
-ghost use Rattle.gate_base.specs.Told.{moment_limit};
 ghost use Rattle.s3_machine.specs.Shown.{IsShownItem, IsShownItemHead};
 ghost use Rattle.hex.specs.Hex.{encode_lower};
 ghost use Rattle.s3_pages.specs.Bodies.{
@@ -28,45 +27,39 @@ ghost use Rattle.s3_pages.specs.Xml.{element};
 use crate::pages::xml_headers;
 use crate::xml::Xml;
 use gate_base::{Bytes, Memory, Page};
-use s3_machine::{Asked, Item, ItemHead, Label};
+use s3_machine::{Asked, Item, ItemHead, Label, ObjectPage};
 use std::alloc::Global;
 
 /// The page of ListObjects, in both versions.
 pub(crate) fn objects_reply_page(
     alloc: Global,
-    bucket: &[u8],
-    asked: &Asked,
-    items: &[Item],
-    truncated: bool,
+    listed: &ObjectPage,
     label: &Label,
 ) -> Result<Page, Memory>
-    requires dated { All IsShownItem items.now }
-    requires moment { label.now.moment < moment_limit }
+    requires dated { All IsShownItem listed.now.items }
     ensures { IfOk result (λ page. page ≡ xml_page 200
-        (objects_body bucket.now asked.now items.now truncated) label.now) }
+        (objects_body listed.now.bucket listed.now.asked listed.now.items listed.now.truncated)
+        label.now) }
 {
     Ok(Page {
         status: 200,
         headers: xml_headers(alloc, label)?,
-        body: objects_body(alloc, bucket, asked, items, truncated)?,
+        body: objects_body(alloc, listed)?,
     })
 }
 
 #[tactic(auto, unfolding(crate::specs::Bodies::objects_body))]
-fn objects_body(
-    alloc: Global,
-    bucket: &[u8],
-    asked: &Asked,
-    items: &[Item],
-    truncated: bool,
-) -> Result<Bytes, Memory>
-    requires { All IsShownItem items.now }
-    ensures { IfOk result (λ body. body ≡ objects_body bucket.now asked.now items.now truncated) }
+fn objects_body(alloc: Global, listed: &ObjectPage) -> Result<Bytes, Memory>
+    requires { All IsShownItem listed.now.items }
+    ensures { IfOk result (λ body. body
+        ≡ objects_body listed.now.bucket listed.now.asked listed.now.items listed.now.truncated) }
 {
+    let asked = &listed.asked;
+    let items = listed.items.as_slice();
     let mut xml = Xml::new(alloc)?;
     xml.root(b"ListBucketResult")?;
-    xml.element(b"Name", bucket)?;
-    xml.asked(asked, items, truncated)?;
+    xml.element(b"Name", listed.bucket.as_slice())?;
+    xml.asked(asked, items, listed.truncated)?;
     xml.contents(asked, items)?;
     xml.prefixes(asked, items)?;
     xml.end(b"ListBucketResult")?;

@@ -7,51 +7,47 @@ ghost use Rattle.s3_pages.specs.Pages.{head_headers, meta_header, meta_name, obj
 use crate::pages::{add_header, common};
 use crate::texts;
 use gate_base::{Bytes, List, Memory, Page, Pair};
-use s3_machine::{Label, ObjectHead};
+use s3_machine::{Label, ObjectBytes, ObjectHead};
 use std::alloc::Global;
 use text_forms::{append_decimal, decimal_text};
 
 /// The page of an object, or of a part of it.
 pub(crate) fn object_reply_page(
     alloc: Global,
-    head: &ObjectHead,
-    from: u64,
-    length: u64,
-    partial: bool,
-    body: Bytes,
+    object: ObjectBytes,
     label: &Label,
 ) -> Result<Page, Memory>
-    requires shown { IsShown head.now from length partial }
-    requires moment { label.now.moment < moment_limit }
-    ensures { IfOk result (λ page. page ≡ object_page head.now from length partial body label.now) }
+    requires shown { IsShown object.head object.from object.length object.partial }
+    ensures { IfOk result (λ page. page
+        ≡ object_page object.head object.from object.length object.partial object.body label.now) }
 {
-    let headers = object_headers(alloc, head, from, length, partial, label)?;
+    let headers = object_headers(alloc, &object, label)?;
     Ok(Page {
-        status: object_page_status(partial),
+        status: object_page_status(object.partial),
         headers,
-        body,
+        body: object.body,
     })
 }
 
 /// The headers of an object, or of a part of it.
-fn object_headers(
-    alloc: Global,
-    head: &ObjectHead,
-    from: u64,
-    length: u64,
-    partial: bool,
-    label: &Label,
-) -> Result<List<Pair>, Memory>
-    requires shown { IsShown head.now from length partial }
-    requires moment { label.now.moment < moment_limit }
-    ensures { IfOk result
-        (λ headers. headers ≡ object_headers head.now from length partial label.now) }
+fn object_headers(alloc: Global, object: &ObjectBytes, label: &Label) -> Result<List<Pair>, Memory>
+    requires shown { IsShown object.now.head object.now.from object.now.length object.now.partial }
+    ensures { IfOk result (λ headers. headers
+        ≡ object_headers object.now.head object.now.from object.now.length object.now.partial
+        label.now) }
 {
     let mut headers = common(alloc, label)?;
-    add_object_page_headers(alloc, &mut headers, head)?;
-    add_metadata_page_headers(alloc, &mut headers, head.meta.pairs())?;
-    add_range_page_header(alloc, &mut headers, partial, from, length, head.size)?;
-    let number = decimal_text(alloc, length)?;
+    add_object_page_headers(alloc, &mut headers, &object.head)?;
+    add_metadata_page_headers(alloc, &mut headers, object.head.meta.pairs())?;
+    add_range_page_header(
+        alloc,
+        &mut headers,
+        object.partial,
+        object.from,
+        object.length,
+        object.head.size,
+    )?;
+    let number = decimal_text(alloc, object.length)?;
     add_header(alloc, &mut headers, b"Content-Length", number.as_slice())?;
     Ok(headers)
 }

@@ -1,9 +1,10 @@
 //! The page of a reply: which function makes that of each; the error page of a refusal; the pages without a body, as that of a
 //! stored object or part, 204 No Content and 304 Not Modified; and the headers that pages begin with (Date, x-amz-request-id,
 //! Content-Type of XML).
-ghost use Rattle.std.specs.Prelude.{◌≡◌, ◌≢◌, ◌<◌, [], ◌∷◌, ◌++◌, IfOk, OnOk};
+ghost use Rattle.std.specs.Prelude.{◌≡◌, ◌≢◌, ◌<◌, ℕ, List, [], ◌∷◌, ◌++◌, IfOk, OnOk};
 ghost use Rattle.gate_base.specs.Told.{moment_limit};
 ghost use Rattle.s3_machine.specs.Shown.{IsShowable};
+ghost use Rattle.s3_machine.specs.declared.operation.Reply.TheVariants.{OfObjects, OfUploads};
 ghost use Rattle.s3_pages.specs.Pages.{page_of, common_headers, done_page, gone_page, header, made_page, not_modified_page, refused_page, stored_page, xml_type};
 ghost use Rattle.s3_pages.specs.Xml.{error_body};
 
@@ -17,8 +18,8 @@ use crate::uploads::{
 };
 use crate::xml::Xml;
 use crate::{codes, texts};
-use gate_base::{Bytes, List, Memory, Page, Pair, drop};
-use s3_machine::{Code, Label, ObjectHead, Reply};
+use gate_base::{Bytes, List, Memory, Page, Pair};
+use s3_machine::{Code, Label, ObjectHead, ObjectsReply, Reply, UploadsReply};
 use std::alloc::Global;
 
 /// The page of a reply: its status, its headers in their order, and its body (Amazon S3 API Reference; what that
@@ -31,113 +32,49 @@ use std::alloc::Global;
 pub fn page(alloc: Global, reply: Reply, label: &Label, resource: &[u8]) -> Result<Page, Memory>
     requires reply { reply ≢ Reply.Memory }
     requires showable { IsShowable reply }
-    requires moment { label.now.moment < moment_limit }
     ensures { IfOk result (λ page. page ≡ page_of reply label.now resource.now) }
 {
     match reply {
-        Reply::Object {
-            head,
-            from,
-            length,
-            partial,
-            body,
-        } => object_reply_page(alloc, &head, from, length, partial, body, label),
-        other => {
-            let page = other_page(alloc, &other, label, resource);
-            drop(other);
-            page
-        }
-    }
-}
-
-/// The page of any reply but the object of a GET or a HEAD, which doesn't come here.
-fn other_page(alloc: Global, reply: &Reply, label: &Label, resource: &[u8]) -> Result<Page, Memory>
-    requires reply { reply.now ≢ Reply.Memory }
-    requires showable { IsShowable reply.now }
-    requires moment { label.now.moment < moment_limit }
-    ensures { IfOk result (λ page. page ≡ page_of reply.now label.now resource.now) }
-{
-    match reply {
-        Reply::Refused(code) => refused_reply_page(alloc, *code, label, resource),
+        Reply::Refused(code) => refused_reply_page(alloc, code, label, resource),
         Reply::Memory => unreachable!(),
         Reply::Done => done_reply_page(alloc, label),
         Reply::Gone => no_content_reply_page(alloc, label),
-        Reply::NotModified(head) => not_modified_reply_page(alloc, head, label),
-        Reply::Buckets(items) => buckets_reply_page(alloc, items.as_slice(), label),
-        Reply::Made { bucket } => made_bucket_reply_page(alloc, bucket.as_slice(), label),
-        Reply::Location { region } => location_reply_page(alloc, region.as_slice(), label),
-        Reply::AclOf(list) => acl_reply_page(alloc, *list, label),
-        Reply::Objects {
-            bucket,
-            asked,
-            items,
-            truncated,
-        } => objects_reply_page(
-            alloc,
-            bucket.as_slice(),
-            asked,
-            items.as_slice(),
-            *truncated,
-            label,
-        ),
-        Reply::Uploads {
-            bucket,
-            prefix,
-            key_marker,
-            id_marker,
-            max,
-            url,
-            items,
-            truncated,
-        } => uploads_reply_page(
-            alloc,
-            bucket.as_slice(),
-            prefix.as_slice(),
-            key_marker.as_slice(),
-            id_marker.as_slice(),
-            *max,
-            *url,
-            items.as_slice(),
-            *truncated,
-            label,
-        ),
-        Reply::Stored { etag } => stored_reply_page(alloc, etag.as_slice(), label),
-        Reply::Object { .. } => Err(Memory),
-        Reply::Started { bucket, key, id } => {
-            started_upload_reply_page(alloc, bucket.as_slice(), key.as_slice(), *id, label)
-        }
-        Reply::Parts {
-            bucket,
-            key,
-            id,
-            marker,
-            max,
-            items,
-            truncated,
-        } => parts_reply_page(
-            alloc,
-            bucket.as_slice(),
-            key.as_slice(),
-            *id,
-            *marker,
-            *max,
-            items.as_slice(),
-            *truncated,
-            label,
-        ),
-        Reply::Completed { bucket, key, etag } => completed_reply_page(
-            alloc,
-            bucket.as_slice(),
-            key.as_slice(),
-            etag.as_slice(),
-            label,
-        ),
-        Reply::Deleted { keys, quiet } => deleted_reply_page(alloc, keys.as_slice(), *quiet, label),
-        Reply::Copied {
-            part,
-            etag,
-            modified,
-        } => copied_reply_page(alloc, *part, etag.as_slice(), *modified, label),
+        Reply::NotModified(head) => not_modified_reply_page(alloc, &head, label),
+        Reply::Object(object) => object_reply_page(alloc, object, label),
+        Reply::Stored(etag) => stored_reply_page(alloc, etag.as_slice(), label),
+        Reply::OfObjects(reply) => page_of_objects(alloc, &reply, label),
+        Reply::OfUploads(reply) => page_of_uploads(alloc, &reply, label),
+        Reply::Copied(copied) => copied_reply_page(alloc, &copied, label),
+    }
+}
+
+/// The page of a reply to an operation on buckets and objects.
+fn page_of_objects(alloc: Global, reply: &ObjectsReply, label: &Label) -> Result<Page, Memory>
+    requires { IsShowable (OfObjects reply.now) }
+    ensures { (resource : List ℕ)
+        → IfOk result (λ page. page ≡ page_of (OfObjects reply.now) label.now resource) }
+{
+    match reply {
+        ObjectsReply::Buckets(items) => buckets_reply_page(alloc, items.as_slice(), label),
+        ObjectsReply::Made(bucket) => made_bucket_reply_page(alloc, bucket.as_slice(), label),
+        ObjectsReply::Location(region) => location_reply_page(alloc, region.as_slice(), label),
+        ObjectsReply::AclOf(list) => acl_reply_page(alloc, *list, label),
+        ObjectsReply::Objects(listed) => objects_reply_page(alloc, listed, label),
+        ObjectsReply::Deleted(deleted) => deleted_reply_page(alloc, deleted, label),
+    }
+}
+
+/// The page of a reply to an operation on uploads in parts.
+fn page_of_uploads(alloc: Global, reply: &UploadsReply, label: &Label) -> Result<Page, Memory>
+    requires { IsShowable (OfUploads reply.now) }
+    ensures { (resource : List ℕ)
+        → IfOk result (λ page. page ≡ page_of (OfUploads reply.now) label.now resource) }
+{
+    match reply {
+        UploadsReply::Uploads(listed) => uploads_reply_page(alloc, listed, label),
+        UploadsReply::Started(started) => started_upload_reply_page(alloc, started, label),
+        UploadsReply::Parts(listed) => parts_reply_page(alloc, listed, label),
+        UploadsReply::Completed(completed) => completed_reply_page(alloc, completed, label),
     }
 }
 
@@ -147,7 +84,6 @@ fn refused_reply_page(
     label: &Label,
     resource: &[u8],
 ) -> Result<Page, Memory>
-    requires { label.now.moment < moment_limit }
     ensures { IfOk result (λ page. page ≡ refused_page code label.now resource.now) }
 {
     Ok(Page {
@@ -158,7 +94,6 @@ fn refused_reply_page(
 }
 
 fn done_reply_page(alloc: Global, label: &Label) -> Result<Page, Memory>
-    requires { label.now.moment < moment_limit }
     ensures { IfOk result (λ page. page ≡ done_page label.now) }
 {
     Ok(Page {
@@ -170,7 +105,6 @@ fn done_reply_page(alloc: Global, label: &Label) -> Result<Page, Memory>
 
 fn not_modified_reply_page(alloc: Global, head: &ObjectHead, label: &Label) -> Result<Page, Memory>
     requires dated { head.now.modified < moment_limit }
-    requires moment { label.now.moment < moment_limit }
     ensures { IfOk result (λ page. page ≡ not_modified_page head.now label.now) }
 {
     let date = texts::page_header_date(head.modified);
@@ -186,7 +120,6 @@ fn not_modified_reply_page(alloc: Global, head: &ObjectHead, label: &Label) -> R
 }
 
 fn made_bucket_reply_page(alloc: Global, bucket: &[u8], label: &Label) -> Result<Page, Memory>
-    requires { label.now.moment < moment_limit }
     ensures { IfOk result (λ page. page ≡ made_page bucket.now label.now) }
 {
     let mut place = Bytes::from_slice(alloc, b"/")?;
@@ -201,7 +134,6 @@ fn made_bucket_reply_page(alloc: Global, bucket: &[u8], label: &Label) -> Result
 }
 
 fn no_content_reply_page(alloc: Global, label: &Label) -> Result<Page, Memory>
-    requires { label.now.moment < moment_limit }
     ensures { IfOk result (λ page. page ≡ gone_page label.now) }
 {
     Ok(Page {
@@ -212,7 +144,6 @@ fn no_content_reply_page(alloc: Global, label: &Label) -> Result<Page, Memory>
 }
 
 fn stored_reply_page(alloc: Global, etag: &[u8], label: &Label) -> Result<Page, Memory>
-    requires { label.now.moment < moment_limit }
     ensures { IfOk result (λ page. page ≡ stored_page etag.now label.now) }
 {
     let mut headers = common(alloc, label)?;
@@ -227,7 +158,6 @@ fn stored_reply_page(alloc: Global, etag: &[u8], label: &Label) -> Result<Page, 
 
 /// The headers that every page begins with.
 pub(crate) fn common(alloc: Global, label: &Label) -> Result<List<Pair>, Memory>
-    requires { label.now.moment < moment_limit }
     ensures { IfOk result (λ headers. headers ≡ common_headers label.now) }
 {
     let date = texts::page_header_date(label.moment);
@@ -240,7 +170,6 @@ pub(crate) fn common(alloc: Global, label: &Label) -> Result<List<Pair>, Memory>
 
 /// The headers of a page whose body is XML.
 pub(crate) fn xml_headers(alloc: Global, label: &Label) -> Result<List<Pair>, Memory>
-    requires { label.now.moment < moment_limit }
     ensures { IfOk result (λ headers. headers ≡ common_headers label.now ++ xml_type ∷ []) }
 {
     let mut headers = common(alloc, label)?;

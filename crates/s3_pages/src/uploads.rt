@@ -1,7 +1,6 @@
 //! The pages of the replies on uploads and their parts, and the markers that the next page of a listing begins behind.
 ghost use Rattle.std.specs.Prelude.{◌≡◌, ◌<◌, ◌++◌, IfOk, OnOk, codes};
 ghost use Rattle.std.specs.List.{All, flat_map};
-ghost use Rattle.gate_base.specs.Told.{moment_limit};
 ghost use Rattle.s3_machine.specs.Shown.{IsShownPart, IsShownUpload};
 ghost use Rattle.s3_pages.specs.Bodies.{
   completed_body,
@@ -25,60 +24,47 @@ ghost use Rattle.s3_pages.specs.Pages.{xml_page};
 use crate::pages::xml_headers;
 use crate::xml::Xml;
 use gate_base::{Bytes, Memory, Page};
-use s3_machine::{Label, PartItem, UploadItem};
+use s3_machine::{
+    CompletedObject, Label, PartItem, PartPage, StartedUpload, UploadItem, UploadPage, UploadsAsked,
+};
 use s3_names::encode_path;
 use std::alloc::Global;
 
 /// The page of ListUploads.
 pub(crate) fn uploads_reply_page(
     alloc: Global,
-    bucket: &[u8],
-    prefix: &[u8],
-    key_marker: &[u8],
-    id_marker: &[u8],
-    max: u32,
-    url: bool,
-    items: &[UploadItem],
-    truncated: bool,
+    listed: &UploadPage,
     label: &Label,
 ) -> Result<Page, Memory>
-    requires dated { All IsShownUpload items.now }
-    requires moment { label.now.moment < moment_limit }
+    requires dated { All IsShownUpload listed.now.items }
     ensures { IfOk result (λ page. page ≡ xml_page 200
-        (uploads_body bucket.now prefix.now key_marker.now id_marker.now max url items.now
-        truncated)
+        (uploads_body listed.now.bucket listed.now.asked.prefix listed.now.asked.key_marker
+        listed.now.asked.id_marker listed.now.asked.max listed.now.asked.url listed.now.items
+        listed.now.truncated)
         label.now) }
 {
     Ok(Page {
         status: 200,
         headers: xml_headers(alloc, label)?,
-        body: uploads_body(
-            alloc, bucket, prefix, key_marker, id_marker, max, url, items, truncated,
-        )?,
+        body: uploads_body(alloc, listed)?,
     })
 }
 
 #[tactic(auto, unfolding(crate::specs::Bodies::uploads_body))]
-fn uploads_body(
-    alloc: Global,
-    bucket: &[u8],
-    prefix: &[u8],
-    key_marker: &[u8],
-    id_marker: &[u8],
-    max: u32,
-    url: bool,
-    items: &[UploadItem],
-    truncated: bool,
-) -> Result<Bytes, Memory>
-    requires { All IsShownUpload items.now }
-    ensures { IfOk result (λ body. body ≡ uploads_body bucket.now prefix.now key_marker.now
-        id_marker.now max url items.now truncated) }
+fn uploads_body(alloc: Global, listed: &UploadPage) -> Result<Bytes, Memory>
+    requires { All IsShownUpload listed.now.items }
+    ensures { IfOk result (λ body. body ≡ uploads_body listed.now.bucket listed.now.asked.prefix
+        listed.now.asked.key_marker listed.now.asked.id_marker listed.now.asked.max
+        listed.now.asked.url
+        listed.now.items listed.now.truncated) }
 {
+    let url = listed.asked.url;
+    let items = listed.items.as_slice();
     let mut xml = Xml::new(alloc)?;
     xml.root(b"ListMultipartUploadsResult")?;
-    xml.uploads_asked(bucket, prefix, key_marker, id_marker, url)?;
-    xml.next_upload_markers(url, items, truncated)?;
-    xml.uploads_limits(max, url, truncated)?;
+    xml.uploads_asked(listed.bucket.as_slice(), &listed.asked)?;
+    xml.next_upload_markers(url, items, listed.truncated)?;
+    xml.uploads_limits(listed.asked.max, url, listed.truncated)?;
     xml.uploads(url, items)?;
     xml.end(b"ListMultipartUploadsResult")?;
     Ok(xml.text)
@@ -87,29 +73,31 @@ fn uploads_body(
 /// The page of CreateUpload.
 pub(crate) fn started_upload_reply_page(
     alloc: Global,
-    bucket: &[u8],
-    key: &[u8],
-    id: u128,
+    started: &StartedUpload,
     label: &Label,
 ) -> Result<Page, Memory>
-    requires { label.now.moment < moment_limit }
-    ensures { IfOk result
-        (λ page. page ≡ xml_page 200 (started_body bucket.now key.now id) label.now) }
+    ensures { IfOk result (λ page. page ≡ xml_page 200
+        (started_body started.now.bucket started.now.key started.now.id) label.now) }
 {
     Ok(Page {
         status: 200,
         headers: xml_headers(alloc, label)?,
-        body: started_upload_body(alloc, bucket, key, id)?,
+        body: started_upload_body(alloc, started)?,
     })
 }
 
 #[tactic(auto, unfolding(crate::specs::Bodies::started_body))]
-fn started_upload_body(alloc: Global, bucket: &[u8], key: &[u8], id: u128) -> Result<Bytes, Memory>
-    ensures { IfOk result (λ body. body ≡ started_body bucket.now key.now id) }
+fn started_upload_body(alloc: Global, started: &StartedUpload) -> Result<Bytes, Memory>
+    ensures { IfOk result
+        (λ body. body ≡ started_body started.now.bucket started.now.key started.now.id) }
 {
     let mut xml = Xml::new(alloc)?;
     xml.root(b"InitiateMultipartUploadResult")?;
-    xml.upload_place(bucket, key, id)?;
+    xml.upload_place(
+        started.bucket.as_slice(),
+        started.key.as_slice(),
+        started.id,
+    )?;
     xml.end(b"InitiateMultipartUploadResult")?;
     Ok(xml.text)
 }
@@ -117,49 +105,40 @@ fn started_upload_body(alloc: Global, bucket: &[u8], key: &[u8], id: u128) -> Re
 /// The page of ListParts.
 pub(crate) fn parts_reply_page(
     alloc: Global,
-    bucket: &[u8],
-    key: &[u8],
-    id: u128,
-    marker: u32,
-    max: u32,
-    items: &[PartItem],
-    truncated: bool,
+    listed: &PartPage,
     label: &Label,
 ) -> Result<Page, Memory>
-    requires dated { All IsShownPart items.now }
-    requires moment { label.now.moment < moment_limit }
+    requires dated { All IsShownPart listed.now.items }
     ensures { IfOk result (λ page. page ≡ xml_page 200
-        (parts_body bucket.now key.now id marker max items.now truncated) label.now) }
+        (parts_body listed.now.bucket listed.now.key listed.now.id listed.now.asked.marker
+        listed.now.asked.max listed.now.items listed.now.truncated) label.now) }
 {
     Ok(Page {
         status: 200,
         headers: xml_headers(alloc, label)?,
-        body: parts_body(alloc, bucket, key, id, marker, max, items, truncated)?,
+        body: parts_body(alloc, listed)?,
     })
 }
 
 #[tactic(auto, unfolding(crate::specs::Bodies::parts_body))]
-fn parts_body(
-    alloc: Global,
-    bucket: &[u8],
-    key: &[u8],
-    id: u128,
-    marker: u32,
-    max: u32,
-    items: &[PartItem],
-    truncated: bool,
-) -> Result<Bytes, Memory>
-    requires { All IsShownPart items.now }
-    ensures { IfOk result
-        (λ body. body ≡ parts_body bucket.now key.now id marker max items.now truncated) }
+fn parts_body(alloc: Global, listed: &PartPage) -> Result<Bytes, Memory>
+    requires { All IsShownPart listed.now.items }
+    ensures { IfOk result (λ body. body ≡ parts_body listed.now.bucket listed.now.key listed.now.id
+        listed.now.asked.marker listed.now.asked.max listed.now.items listed.now.truncated) }
 {
+    let items = listed.items.as_slice();
     let mut xml = Xml::new(alloc)?;
     xml.root(b"ListPartsResult")?;
-    xml.upload_place(bucket, key, id)?;
+    xml.upload_place(listed.bucket.as_slice(), listed.key.as_slice(), listed.id)?;
     xml.initiator()?;
     xml.owner()?;
     xml.storage_class()?;
-    xml.parts_asked(marker, max, items, truncated)?;
+    xml.parts_asked(
+        listed.asked.marker,
+        listed.asked.max,
+        items,
+        listed.truncated,
+    )?;
     xml.parts(items)?;
     xml.end(b"ListPartsResult")?;
     Ok(xml.text)
@@ -168,33 +147,33 @@ fn parts_body(
 /// The page of CompleteUpload.
 pub(crate) fn completed_reply_page(
     alloc: Global,
-    bucket: &[u8],
-    key: &[u8],
-    etag: &[u8],
+    completed: &CompletedObject,
     label: &Label,
 ) -> Result<Page, Memory>
-    requires { label.now.moment < moment_limit }
-    ensures { IfOk result
-        (λ page. page ≡ xml_page 200 (completed_body bucket.now key.now etag.now) label.now) }
+    ensures { IfOk result (λ page. page ≡ xml_page 200
+        (completed_body completed.now.bucket completed.now.key completed.now.etag) label.now) }
 {
     Ok(Page {
         status: 200,
         headers: xml_headers(alloc, label)?,
-        body: completed_body(alloc, bucket, key, etag)?,
+        body: completed_body(alloc, completed)?,
     })
 }
 
 #[tactic(auto, unfolding(crate::specs::Bodies::completed_body))]
-fn completed_body(alloc: Global, bucket: &[u8], key: &[u8], etag: &[u8]) -> Result<Bytes, Memory>
-    ensures { IfOk result (λ body. body ≡ completed_body bucket.now key.now etag.now) }
+fn completed_body(alloc: Global, completed: &CompletedObject) -> Result<Bytes, Memory>
+    ensures { IfOk result (λ body. body
+        ≡ completed_body completed.now.bucket completed.now.key completed.now.etag) }
 {
+    let bucket = completed.bucket.as_slice();
+    let key = completed.key.as_slice();
     let place = completed_body_location(alloc, bucket, key)?;
     let mut xml = Xml::new(alloc)?;
     xml.root(b"CompleteMultipartUploadResult")?;
     xml.element(b"Location", place.as_slice())?;
     xml.element(b"Bucket", bucket)?;
     xml.element(b"Key", key)?;
-    xml.etag(etag)?;
+    xml.etag(completed.etag.as_slice())?;
     xml.end(b"CompleteMultipartUploadResult")?;
     Ok(xml.text)
 }
@@ -213,21 +192,15 @@ fn completed_body_location(alloc: Global, bucket: &[u8], key: &[u8]) -> Result<B
 
 impl Xml {
     #[tactic(auto, unfolding(crate::specs::Bodies::uploads_asked))]
-    fn uploads_asked(
-        &mut self,
-        bucket: &[u8],
-        prefix: &[u8],
-        key_marker: &[u8],
-        id_marker: &[u8],
-        url: bool,
-    ) -> Result<(), Memory>
+    fn uploads_asked(&mut self, bucket: &[u8], asked: &UploadsAsked) -> Result<(), Memory>
         ensures { OnOk result (self.new.text ≡ self.old.text
-            ++ uploads_asked bucket.now prefix.now key_marker.now id_marker.now url) }
+            ++ uploads_asked bucket.now asked.now.prefix asked.now.key_marker asked.now.id_marker
+            asked.now.url) }
     {
         self.element(b"Bucket", bucket)?;
-        self.shown(b"Prefix", url, prefix)?;
-        self.shown(b"KeyMarker", url, key_marker)?;
-        self.element(b"UploadIdMarker", id_marker)
+        self.shown(b"Prefix", asked.url, asked.prefix.as_slice())?;
+        self.shown(b"KeyMarker", asked.url, asked.key_marker.as_slice())?;
+        self.element(b"UploadIdMarker", asked.id_marker.as_slice())
     }
 
     #[tactic(auto, unfolding(crate::specs::Bodies::uploads_limits))]

@@ -1,6 +1,6 @@
--- What is read of a copy keeps the limits of an operation: its source, the range of a part, and what replaces the source's content.
+-- What is read of a copy keeps the limits of an operation: the names of its source.
 use Rattle.std.proofs.Common.{◌≡◌, ℕ, Bool, true, false, ◌&&◌, ◌||◌, cond, List, Option, Some, None, IfSome, refl}
-use Rattle.std.specs.Prelude.{is_none, option_map, option_and_then, codes, Result, Ok, Err}
+use Rattle.std.specs.Prelude.{is_none, option_map, Result, Ok, Err}
 use Rattle.std.specs.List.{before_first, after_first}
 use Rattle.std.specs.Option.{unwrap_or}
 use Rattle.std.proofs.lemmas.Bool.{and_parts}
@@ -10,17 +10,11 @@ use Rattle.s3_names.specs.declared.fault.NameFault.{NameFault}
 use Rattle.s3_names.specs.Bucket.{is_bucket}
 use Rattle.s3_names.specs.Escapes.{decoded}
 use Rattle.s3_names.specs.Key.{is_key}
-use Rattle.http_wire.specs.Headers.{text_of}
-use Rattle.s3_machine.specs.declared.reading.Range.{Range}
-use Rattle.s3_machine.specs.declared.reading.Range.TheVariants.{FromTo, From, Last}
-use Rattle.s3_machine.specs.Limits.{is_content_type, is_proper_meta}
-use Rattle.s3_machine.specs.Step.{IsPlace, IsProperRange, IsProperCopyRange, IsProperReplaced}
+use Rattle.s3_machine.specs.Proper.{IsPlace}
 use Rattle.request_fields.specs.declared.copies.Source.{Source}
 use Rattle.s3_requests.specs.declared.rows.Row.{Row}
-use Rattle.request_fields.specs.Ranges.{range_of}
-use Rattle.request_fields.specs.Copies.{without_slash, place_in, place_decoded, place_named, copy_source_text, from_to, copied_range, has_bad_directive, source_at}
+use Rattle.request_fields.specs.Copies.{without_slash, place_in, place_decoded, place_named, copy_source_text, has_bad_directive, source_at}
 use Rattle.s3_requests.specs.Copies.{has_bad_range, source_of, no_source}
-use Rattle.s3_requests.proofs.ProperReads.{of_proper}
 
 abbrev Named : List ℕ × List ℕ → Type 0
 Named place = IsPlace place.0 place.1
@@ -41,32 +35,16 @@ place_proper : (text : List ℕ) → IfSome (place_named text) Named
 unfolding place_named
 place_proper text = decoded_named (decoded (without_slash text))
 
-part_range : (range : Option Range) → IfSome range IsProperRange → IfSome (option_and_then from_to range) IsProperCopyRange
-part_range None h = tt
-part_range (Some (FromTo first last)) h = h
-part_range (Some (From first)) h = tt
-part_range (Some (Last count)) h = tt
-
-range_proper : (headers : List Pair) → IfSome (copied_range headers) IsProperCopyRange
-range_proper headers =
-    part_range (range_of (text_of (codes "x-amz-copy-source-range") headers)) (of_proper (text_of (codes "x-amz-copy-source-range") headers))
-
-abbrev IsProperSource : Source → Type 0
-IsProperSource source = IsPlace source.bucket source.key × IfSome source.range IsProperCopyRange
+abbrev IsNamed : Source → Type 0
+IsNamed source = IsPlace source.bucket source.key
 
 at_proper : (bad : Bool) (headers : List Pair) (place : Option (List ℕ × List ℕ)) → IfSome place Named → is_none (cond bad None (option_map (source_at headers) place)) ≡ false
-    → IsProperSource (unwrap_or (cond bad None (option_map (source_at headers) place)) no_source)
+    → IsNamed (unwrap_or (cond bad None (option_map (source_at headers) place)) no_source)
 at_proper true headers place named some = cc
 at_proper false headers None named some = cc
-at_proper false headers (Some place) named some = (named, range_proper headers)
+at_proper false headers (Some place) named some = named
 
--- a source that can be read keeps the limits
-pub source_proper : (row : Row) (headers : List Pair) → is_none (source_of row headers) ≡ false → IsProperSource (unwrap_or (source_of row headers) no_source)
+-- a source that can be read names an object
+pub source_proper : (row : Row) (headers : List Pair) → is_none (source_of row headers) ≡ false → IsNamed (unwrap_or (source_of row headers) no_source)
 source_proper row headers some =
     at_proper (has_bad_directive headers || has_bad_range row headers) headers (place_named (copy_source_text headers)) (place_proper (copy_source_text headers)) some
-
--- what replaces the content of a source keeps them where it was tested
-pub replaced_proper : (b : Bool) (content_type : List ℕ) (meta : List Pair) → is_content_type content_type ≡ true → is_proper_meta meta ≡ true
-    → IfSome (cond b (Some (record { content_type = content_type; meta = meta })) None) IsProperReplaced
-replaced_proper true content_type meta typed described = record { typed = typed; described = described }
-replaced_proper false content_type meta typed described = tt

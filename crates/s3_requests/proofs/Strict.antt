@@ -11,7 +11,6 @@ use Rattle.gate_base.specs.declared.page.Pair.{Pair}
 use Rattle.s3_names.specs.declared.acl.Acl.{Acl}
 use Rattle.s3_names.specs.declared.target.Target.{Target}
 use Rattle.s3_names.specs.Target.{is_question}
-use Rattle.s3_machine.specs.declared.code.Code.{Code}
 use Rattle.s3_machine.specs.declared.operation.Op.{Op}
 use Rattle.s3_machine.specs.declared.operation.Settings.{Settings}
 use Rattle.s3_machine.specs.declared.reading.ETags.TheVariants.{Absent}
@@ -19,7 +18,6 @@ use Rattle.s3_machine.specs.Conditions.{no_conditions}
 use Rattle.http_wire.specs.declared.message.Message.{Message}
 use Rattle.http_wire.specs.Headers.{has_name, has_header, text_of, value_of}
 use Rattle.s3_requests.specs.declared.meant.Meant.{Meant}
-use Rattle.s3_requests.specs.declared.meant.Meant.TheVariants.{Refused}
 use Rattle.s3_requests.specs.declared.meant.Meant.TheVariants as meant
 use Rattle.s3_requests.specs.declared.rows.Row.{Row}
 use Rattle.s3_requests.specs.declared.rows.Row.TheVariants.{ListBuckets, CreateBucket, PutBucketAcl, DeleteBucket, HeadBucket, GetBucketLocation}
@@ -34,22 +32,8 @@ use Rattle.request_fields.specs.Copies.{is_untaken_condition, asks_further, copy
 use Rattle.request_fields.specs.Headers.{given_acl}
 use Rattle.s3_requests.specs.Copies.{has_unsupported_source, no_source, has_bad_range, source_of}
 use Rattle.s3_requests.specs.Laws.{IsStrictOp}
-use Rattle.s3_requests.specs.Meaning.{Reason, first_refusal, target_reasons, reasons, row_of, judged, put_acl, op_of, meaning_of}
-use Rattle.s3_requests.proofs.lemmas.Proper.{NoneHolds}
-
--- ---- what is refused
-
-chosen : (b : Bool) (code : Code) (rest : Meant) (op : Op) → cond b (Refused code) rest ≡ meant.Op op → (b ≡ false) × (rest ≡ meant.Op op)
-chosen true code rest op h = cc
-chosen false code rest op h = (refl, h)
-
--- where an operation is meant, no reason to refuse it holds
-none_held : (list : List Reason) (rest : Meant) (op : Op) → first_refusal list rest ≡ meant.Op op → NoneHolds list × (rest ≡ meant.Op op)
-none_held [] rest op h = (tt, h)
-none_held (this ∷ others) rest op h =
-    let first = chosen this.holds this.code (first_refusal others rest) op h in
-    let later = none_held others rest op first.1 in
-    ((first.0, later.0), later.1)
+use Rattle.s3_requests.specs.Meaning.{target_reasons, reasons, row_of, judged, put_acl, op_of, meaning_of}
+use Rattle.s3_requests.proofs.Reasons.{none_held}
 
 -- ---- the headers and the names that aren't there
 

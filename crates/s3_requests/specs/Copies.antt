@@ -5,7 +5,7 @@ use Rattle.std.specs.Prelude.{Option, Some, None, is_none, option_map}
 use Rattle.std.specs.Option.{unwrap_or}
 use Rattle.gate_base.specs.declared.page.Pair.{Pair}
 use Rattle.s3_machine.specs.declared.operation.Op.{Op}
-use Rattle.s3_machine.specs.declared.operation.Op.TheVariants as op
+use Rattle.s3_machine.specs.Ops as op
 use Rattle.s3_machine.specs.Conditions.{no_conditions}
 use Rattle.http_wire.specs.Headers.{has_header}
 use Rattle.request_fields.specs.declared.copies.Source.{Source}

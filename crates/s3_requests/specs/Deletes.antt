@@ -3,7 +3,7 @@
 use Rattle.std.specs.Prelude.{ℕ, Bool, false, List, [], Option, Some, is_none}
 use Rattle.std.specs.Option.{unwrap_or}
 use Rattle.s3_machine.specs.declared.operation.Op.{Op}
-use Rattle.s3_machine.specs.declared.operation.Op.TheVariants as op
+use Rattle.s3_machine.specs.Ops as op
 use Rattle.s3_bodies.specs.declared.delete.Deletes.{Deletes}
 use Rattle.s3_bodies.specs.Deletes.{deletes_in}
 use Rattle.s3_requests.specs.declared.rows.Row.{Row}

@@ -3,6 +3,7 @@ pub mod Copies
 pub mod Deletes
 pub mod Laws
 pub mod Meaning
+pub mod Named
 pub mod Proper
 pub mod Query
 pub mod Rows

@@ -13,10 +13,13 @@ use Rattle.s3_machine.specs.declared.code.Code.{Code}
 use Rattle.s3_machine.specs.declared.code.Code.TheVariants.{AccessDenied, BadDigest, EntityTooLarge, InvalidArgument, InvalidBucketName}
 use Rattle.s3_machine.specs.declared.code.Code.TheVariants.{InvalidDigest, InvalidStorageClass, InvalidURI, KeyTooLongError, MalformedXML}
 use Rattle.s3_machine.specs.declared.code.Code.TheVariants.{MetadataTooLarge, MethodNotAllowed, NotImplemented, InvalidRequest}
-use Rattle.s3_machine.specs.declared.operation.Op.TheVariants as op
+use Rattle.s3_machine.specs.Ops as op
+use Rattle.s3_machine.specs.declared.only_if.OnlyIf.TheVariants.{Always}
 use Rattle.s3_machine.specs.declared.operation.Settings.{Settings}
 use Rattle.s3_machine.specs.Limits.{is_content_type, is_proper_meta}
 use Rattle.http_wire.specs.declared.message.Message.{Message}
+use Rattle.s3_requests.specs.Named.{named_by}
+use Rattle.s3_requests.specs.declared.meant.Asking.{Asking}
 use Rattle.s3_requests.specs.declared.meant.Meant.{Meant}
 use Rattle.s3_requests.specs.declared.meant.Meant.TheVariants.{Op, Refused}
 use Rattle.s3_requests.specs.declared.rows.Level.TheVariants.{Service, Key}
@@ -180,10 +183,11 @@ op_of PutObject message target =
     (given_acl message.headers)
     (taken_type PutObject message.headers)
     (taken_meta PutObject message.headers)
-    message.body)
+    message.body
+    Always)
 op_of GetObject message target = Op (op.GetObject target.bucket target.key (given_range message.headers) (given_conditions message.headers))
 op_of HeadObject message target = Op (op.HeadObject target.bucket target.key (given_range message.headers) (given_conditions message.headers))
-op_of DeleteObject message target = Op (op.DeleteObject target.bucket target.key)
+op_of DeleteObject message target = Op (op.DeleteObject target.bucket target.key Always)
 op_of GetObjectAcl message target = Op (op.GetObjectAcl target.bucket target.key)
 op_of ListMultipartUploads message target = Op (uploads_asked target.bucket target.query)
 op_of DeleteObjects message target = Op (deletes_asked target.bucket (given_deletes DeleteObjects message.body))
@@ -199,7 +203,7 @@ op_of UploadPart message target = Op (op.UploadPart target.bucket target.key (gi
 op_of ListParts message target = Op (parts_asked target.bucket target.key target.query)
 op_of AbortMultipartUpload message target = Op (op.AbortUpload target.bucket target.key (given_upload target.query))
 op_of CompleteMultipartUpload message target =
-    Op (op.CompleteUpload target.bucket target.key (given_upload target.query) (given_list CompleteMultipartUpload message.body))
+    Op (op.CompleteUpload target.bucket target.key (given_upload target.query) (given_list CompleteMultipartUpload message.body) Always)
 op_of CopyObject message target = Op (copy_asked target.bucket target.key (given CopyObject message.headers))
 op_of UploadPartCopy message target =
     Op (part_copy_asked target.bucket target.key target.query (given_source UploadPartCopy message.headers))
@@ -216,3 +220,12 @@ KeepsFront old new = (new.method ≡ old.method) × (new.target ≡ old.target)
 -- what a request means once its target was read
 unfoldable pub meaning_of : Settings → Message → Target → Caller → Meant
 meaning_of settings message target caller = first_refusal (target_reasons message target) (judged settings (row_of message target) message target caller)
+
+-- ---- what is left to be tried
+
+-- what is asked is asked by this message: its row and its names are those of the request, and nothing but these reasons may still
+-- refuse what it asks for
+pub record IsLeft (asking : Asking) (message : Message) (left : List Reason) : Type 0 where
+  pub named : asking.named.now ≡ named_by asking.target.now
+  pub is_row : row_of message asking.target.now ≡ Some asking.row
+  pub so : meaning_of asking.settings.now message asking.target.now asking.caller.now ≡ first_refusal left (op_of asking.row message asking.target.now)

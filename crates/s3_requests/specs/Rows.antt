@@ -106,16 +106,25 @@ takes_body PutObject = true
 takes_body UploadPart = true
 takes_body _ = false
 
--- a row whose operation takes neither a content type and metadata, nor a source, nor anything of the body
-abbrev pub is_plain : Row → Bool
-is_plain PutObject = false
-is_plain UploadPart = false
-is_plain CreateMultipartUpload = false
-is_plain CompleteMultipartUpload = false
-is_plain DeleteObjects = false
-is_plain CopyObject = false
-is_plain UploadPartCopy = false
-is_plain _ = true
+-- a row of a bucket that lists what the bucket has
+abbrev pub is_listing_of_bucket : Row → Bool
+is_listing_of_bucket ListObjects = true
+is_listing_of_bucket ListObjectsV2 = true
+is_listing_of_bucket ListMultipartUploads = true
+is_listing_of_bucket _ = false
+
+-- a row of a bucket that takes nothing of a query or a body
+abbrev pub is_plain_of_bucket : Row → Bool
+is_plain_of_bucket DeleteObjects = false
+is_plain_of_bucket row = not (is_listing_of_bucket row)
+
+-- a row of an object that takes nothing of the query or the body
+abbrev pub is_plain_of_key : Row → Bool
+is_plain_of_key GetObject = true
+is_plain_of_key HeadObject = true
+is_plain_of_key DeleteObject = true
+is_plain_of_key GetObjectAcl = true
+is_plain_of_key _ = false
 
 -- the rows that method, level and names tell apart. A header makes two more of them, of the same shape but for the content
 unfoldable pub rows : List Row

@@ -5,7 +5,7 @@ use Rattle.std.specs.Option.{unwrap_or}
 use Rattle.gate_base.specs.declared.page.Pair.{Pair}
 use Rattle.s3_machine.specs.declared.operation.Listed.{Listed}
 use Rattle.s3_machine.specs.declared.operation.Op.{Op}
-use Rattle.s3_machine.specs.declared.operation.Op.TheVariants.{ListUploads, ListParts}
+use Rattle.s3_machine.specs.Ops.{ListUploads, ListParts}
 use Rattle.s3_bodies.specs.Listed.{listed_in}
 use Rattle.request_fields.specs.Listings.{most_by}
 use Rattle.request_fields.specs.Query.{is_asked, text_at}

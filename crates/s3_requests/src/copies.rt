@@ -1,6 +1,7 @@
 //! Which rows copy, and what a request to copy asks for beside its bucket and its key.
+ghost use Rattle.s3_machine.specs.Proper.{IsPlace};
 ghost use Rattle.std.specs.Prelude.{◌≡◌, ◌&&◌, IfOk};
-ghost use Rattle.request_fields.specs.Copies.{names_source, copy_source_text, asks_further, has_bad_directive, copied_range, place_named, source_at};
+ghost use Rattle.request_fields.specs.Copies.{names_source, copy_source_text, asks_further, has_bad_directive, copied_range, source_at};
 ghost use Rattle.s3_requests.specs.Copies.{copying, is_copy, has_unsupported_source, takes_range, has_bad_range, source_of, taken_source, has_body_of_copy, part_copy_asked};
 
 use crate::rows::Row;
@@ -10,7 +11,8 @@ use request_fields::{
     Source, asks_further, copied_range, copy_source_place_named, copy_source_text,
     given_part_number, given_upload, has_bad_directive, names_source, source_at,
 };
-use s3_machine::{Conditions, Op};
+use s3_machine::{Conditions, CopiesOp, CopyRange, ObjectName, Op, PartCopy};
+use s3_names::{BucketName, Key};
 use std::alloc::Global;
 
 /// The row of a request that would be of this one if it named no source.
@@ -60,7 +62,7 @@ fn takes_range(row: Row) -> bool
     }
 }
 
-fn has_bad_range(row: Row, headers: &[Pair], range: &Option<(u64, u64)>) -> bool
+fn has_bad_range(row: Row, headers: &[Pair], range: &Option<CopyRange>) -> bool
     requires { range.now ≡ copied_range headers.now }
     ensures { result ≡ has_bad_range row headers.now }
 {
@@ -112,22 +114,22 @@ pub fn has_body_of_copy(row: Row, body: &[u8]) -> bool
 /// What UploadPartCopy asks for, of a bucket, a key and a query.
 pub fn part_copy_asked(
     alloc: Global,
-    bucket: Bytes,
-    key: Bytes,
+    name: ObjectName,
     query: &[Pair],
     source: Source,
 ) -> Result<Op, Memory>
-    ensures { IfOk result (λ op. op ≡ part_copy_asked bucket key query.now source) }
+    requires { IsPlace source.bucket source.key }
+    ensures { IfOk result (λ op. op ≡ part_copy_asked name.bucket name.key query.now source) }
 {
     let id = given_upload(alloc, query)?;
-    Ok(Op::CopyPart {
-        bucket,
-        key,
+    Ok(Op::OnCopies(CopiesOp::CopyPart(PartCopy {
+        bucket: name.bucket,
+        key: name.key,
         id,
         number: given_part_number(query),
-        from_bucket: source.bucket,
-        from_key: source.key,
+        from_bucket: BucketName::of(source.bucket),
+        from_key: Key::of(source.key),
         range: source.range,
         conditions: source.conditions,
-    })
+    })))
 }

@@ -1,12 +1,14 @@
 //! What a request to delete many keys asks for beside its bucket.
+ghost use Rattle.s3_machine.specs.Proper.{IsProperKeys};
 ghost use Rattle.std.specs.Prelude.{◌≡◌, IfOk};
 ghost use Rattle.s3_bodies.specs.Deletes.{deletes_in};
 ghost use Rattle.s3_requests.specs.Deletes.{deletes_asked, taken_deletes};
 
 use crate::rows::Row;
-use gate_base::{Bytes, List, Memory};
+use gate_base::{List, Memory};
 use s3_bodies::{BodyFault, Deletes, read_delete};
-use s3_machine::Op;
+use s3_machine::{ObjectsDeletion, ObjectsOp, Op, Proper};
+use s3_names::BucketName;
 use std::alloc::Global;
 
 /// What the body asks to delete of a row that deletes many keys, and no key for any other row. `None` where it can't be
@@ -34,12 +36,13 @@ fn taken_deletes_in(alloc: Global, body: &[u8]) -> Result<Option<Deletes>, Memor
 }
 
 /// What DeleteObjects asks for, of a bucket.
-pub fn deletes_asked(bucket: Bytes, deletes: Deletes) -> Op
+pub fn deletes_asked(bucket: BucketName, deletes: Deletes) -> Op
+    requires { IsProperKeys deletes.keys }
     ensures { result ≡ deletes_asked bucket deletes }
 {
-    Op::DeleteObjects {
+    Op::OnObjects(ObjectsOp::DeleteObjects(ObjectsDeletion {
         bucket,
-        keys: deletes.keys,
+        keys: Proper::of(deletes.keys),
         quiet: deletes.quiet,
-    }
+    }))
 }

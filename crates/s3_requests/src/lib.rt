@@ -7,6 +7,7 @@ mod copies;
 mod deletes;
 mod laws;
 mod meant;
+mod named;
 mod operation;
 mod query;
 mod rows;

@@ -1,8 +1,17 @@
 //! The operation that a row asks for.
-ghost use Rattle.std.specs.Prelude.{◌≡◌, true, false, IfOk};
+ghost use Rattle.std.specs.Prelude.{◌≡◌, ◌≤◌, [], false, true, length, IfOk};
 ghost use Rattle.s3_machine.specs.Body.{IsDigestOf};
-ghost use Rattle.s3_requests.specs.Meaning.{op_of, or_private, put_acl, KeepsFront};
-ghost use Rattle.s3_requests.specs.Rows.{takes_body, is_plain};
+ghost use Rattle.s3_names.specs.declared.target.Target.{Target};
+ghost use Rattle.http_wire.specs.declared.message.Message.{Message};
+ghost use Rattle.s3_requests.specs.Rows.{is_listing_of_bucket, is_plain_of_bucket, is_plain_of_key};
+ghost use Rattle.s3_requests.specs.Meaning.{op_of, or_private, put_acl, IsLeft, KeepsFront};
+ghost use Rattle.s3_requests.specs.declared.rows.Level.TheVariants as level;
+ghost use Rattle.s3_machine.specs.Limits.{most_body_bytes};
+ghost use Rattle.s3_machine.specs.Ops as ops;
+ghost use Rattle.s3_machine.specs.Proper.{IsProperAsked, IsProperKeys, IsProperList};
+ghost use Rattle.s3_machine.specs.declared.only_if.OnlyIf.TheVariants.{Always};
+ghost use Rattle.request_fields.specs.Listings.{has_long_text};
+ghost use Rattle.s3_requests.specs.Rows.{shape_of, takes_body};
 ghost use Rattle.request_fields.specs.Headers.{given_acl};
 ghost use Rattle.request_fields.specs.Conditions.{given_conditions};
 ghost use Rattle.request_fields.specs.Ranges.{given_range};
@@ -15,102 +24,128 @@ ghost use Rattle.s3_requests.specs.Uploads.{given_list, uploads_asked, parts_ask
 
 use crate::copies::part_copy_asked;
 use crate::deletes::deletes_asked;
-use crate::meant::Meant;
+use crate::meant::{Asking, Meant};
+use crate::named::Named;
 use crate::rows::Row;
 use crate::taken::{Taken, copy_asked};
 use crate::uploads::{parts_asked, uploads_asked};
 use gate_base::{Bytes, Copying, List, Memory, Pair};
 use http_wire::Message;
 use request_fields::{
-    Source, first_asked, given_conditions, given_part_number, given_range, given_upload,
-    second_asked,
+    first_asked, given_conditions, given_part_number, given_range, given_upload, second_asked,
 };
 use s3_bodies::Deletes;
-use s3_machine::{Body, Code, Listed, Op};
-use s3_names::{Acl, Target};
+use s3_machine::{
+    Asked, Body, BucketAcl, Code, Content, Listed, ObjectDeletion, ObjectListing, ObjectName,
+    ObjectPut, ObjectRead, ObjectsOp, OnlyIf, Op, PartPut, Proper, UploadCompletion, UploadName,
+    UploadStart, UploadsOp,
+};
+use s3_names::{Acl, BucketName};
 use std::alloc::Global;
 use std::mem;
 
+/// What the body of a request gives: the parts and the keys that it lists, and its MD5 where that is known.
+#[derive(Drop)]
+pub(crate) struct BodyGiven {
+    pub(crate) list: List<Listed>,
+    pub(crate) deletes: Deletes,
+    pub(crate) digest: Option<[u8; 16]>,
+}
+
 /// The operation of a row, with what the headers give it, and the parts and the keys that the body lists.
-pub fn op_of(
+pub(crate) fn op_of(
     alloc: Global,
-    row: Row,
+    asking: &Asking<'_>,
     message: &mut Message,
-    target: &Target,
     taken: Taken,
-    list: List<Listed>,
-    deletes: Deletes,
-    digest: Option<[u8; 16]>,
+    body: BodyGiven,
 ) -> Result<Meant, Memory>
-    requires taken { taken ≡ given row message.now.headers }
-    requires list { list ≡ given_list row message.now.body }
-    requires deletes { deletes ≡ given_deletes row message.now.body }
-    requires digest { IsDigestOf digest message.now.body }
-    ensures value { IfOk result (λ meant. meant ≡ op_of row message.entry.now target.now) }
+    requires left { IsLeft asking.now message.now [] }
+    requires taken { taken ≡ given asking.now.row message.now.headers }
+    requires list { body.list ≡ given_list asking.now.row message.now.body }
+    requires deletes { body.deletes ≡ given_deletes asking.now.row message.now.body }
+    requires digest { IsDigestOf body.digest message.now.body }
+    ensures value { IfOk result (λ meant. meant ≡ op_of asking.now.row message.entry.now
+        asking.now.target.now) }
     ensures keeps { KeepsFront message.entry.now message.exit.now }
 {
-    match row {
-        Row::PutObject => put_object(alloc, message, target, taken, digest),
-        Row::UploadPart => upload_part(alloc, message, target, digest),
-        _ => op_without_body(alloc, row, message, target, taken, list, deletes),
+    match asking.named {
+        Named::Service => Ok(objects_op(ObjectsOp::ListBuckets)),
+        Named::Bucket(bucket) => op_of_bucket(alloc, asking, bucket.copy()?, taken, body),
+        Named::Object(name) => {
+            let name = copy_of_name(name)?;
+            op_of_key(alloc, asking, message, name, taken, body)
+        }
     }
 }
 
-/// The same of a row that leaves the bytes of the body in the message.
-fn op_without_body(
+/// One on buckets and objects.
+fn objects_op(op: ObjectsOp) -> Meant
+    ensures { result ≡ Meant.Op (Op.OnObjects op) }
+{
+    Meant::Op(Op::OnObjects(op))
+}
+
+/// One on uploads in parts.
+fn uploads_op(op: UploadsOp) -> Meant
+    ensures { result ≡ Meant.Op (Op.OnUploads op) }
+{
+    Meant::Op(Op::OnUploads(op))
+}
+
+fn copy_of_name(name: &ObjectName) -> Result<ObjectName, Memory>
+    ensures { IfOk result (λ copied. copied ≡ name.now) }
+{
+    let bucket = name.bucket.copy()?;
+    let key = name.key.copy()?;
+    Ok(ObjectName { bucket, key })
+}
+
+/// The operation of a row on a bucket.
+fn op_of_bucket(
     alloc: Global,
-    row: Row,
-    message: &Message,
-    target: &Target,
+    asking: &Asking<'_>,
+    bucket: BucketName,
     taken: Taken,
-    list: List<Listed>,
-    deletes: Deletes,
+    body: BodyGiven,
 ) -> Result<Meant, Memory>
-    requires row { takes_body row ≡ false }
-    requires taken { taken ≡ given row message.now.headers }
-    requires list { list ≡ given_list row message.now.body }
-    requires deletes { deletes ≡ given_deletes row message.now.body }
-    ensures { IfOk result (λ meant. meant ≡ op_of row message.now target.now) }
+    requires level { (shape_of asking.now.row).level ≡ level.Bucket }
+    requires texts { is_listing_of_bucket asking.now.row ≡ true
+        → has_long_text asking.now.target.now.query ≡ false }
+    requires keys { asking.now.row ≡ Row.DeleteObjects → IsProperKeys body.deletes.keys }
+    ensures { (message : Message) (target : Target) → target.bucket ≡ bucket
+        → target.query ≡ asking.now.target.now.query
+        → taken ≡ given asking.now.row message.headers → body.deletes ≡ given_deletes asking.now.row
+        message.body
+        → IfOk result (λ meant. meant ≡ op_of asking.now.row message target) }
 {
-    match row {
-        Row::CreateMultipartUpload => create_upload(target, taken),
-        Row::CompleteMultipartUpload => complete_upload(alloc, target, list),
-        Row::DeleteObjects => delete_objects(target, deletes),
-        Row::CopyObject => copy_object(target, taken),
-        Row::UploadPartCopy => upload_part_copy(alloc, target, taken.source),
-        _ => plain_op(alloc, row, message, target, taken.acl),
+    match asking.row {
+        Row::ListObjects | Row::ListObjectsV2 | Row::ListMultipartUploads => {
+            op_of_listing(alloc, asking.row, asking.target.query.pairs(), bucket)
+        }
+        Row::DeleteObjects => Ok(Meant::Op(deletes_asked(bucket, body.deletes))),
+        _ => Ok(plain_op_of_bucket(asking.row, bucket, taken.acl)),
     }
 }
 
-/// The same of a row that takes no content, no source and nothing of the body.
-fn plain_op(
-    alloc: Global,
-    row: Row,
-    message: &Message,
-    target: &Target,
-    acl: Option<Acl>,
-) -> Result<Meant, Memory>
-    requires row { is_plain row ≡ true }
-    requires acl { acl ≡ given_acl message.now.headers }
-    ensures { IfOk result (λ meant. meant ≡ op_of row message.now target.now) }
+/// The same of a row that takes nothing of a query or a body.
+fn plain_op_of_bucket(row: Row, bucket: BucketName, acl: Option<Acl>) -> Meant
+    requires level { (shape_of row).level ≡ level.Bucket }
+    requires plain { is_plain_of_bucket row ≡ true }
+    ensures { (message : Message) (target : Target) → target.bucket ≡ bucket
+        → acl ≡ given_acl message.headers
+        → result ≡ op_of row message target }
 {
     match row {
-        Row::ListBuckets => Ok(Meant::Op(Op::ListBuckets)),
-        Row::CreateBucket => create_bucket(target, or_private(acl)),
-        Row::PutBucketAcl => put_bucket_acl(target, acl),
-        Row::DeleteBucket => delete_bucket(target),
-        Row::HeadBucket => head_bucket(target),
-        Row::GetBucketLocation => get_location(target),
-        Row::GetBucketAcl => get_bucket_acl(target),
-        Row::ListObjects => list_objects(alloc, target),
-        Row::ListObjectsV2 => list_objects_v2(alloc, target),
-        Row::ListMultipartUploads => list_uploads(alloc, target),
-        Row::GetObject => get_object(alloc, message.headers.as_slice(), target),
-        Row::HeadObject => head_object(alloc, message.headers.as_slice(), target),
-        Row::DeleteObject => delete_object(target),
-        Row::GetObjectAcl => get_object_acl(target),
-        Row::ListParts => list_parts(alloc, target),
-        Row::AbortMultipartUpload => abort_upload(alloc, target),
+        Row::CreateBucket => objects_op(ObjectsOp::CreateBucket(BucketAcl {
+            bucket,
+            acl: or_private(acl),
+        })),
+        Row::PutBucketAcl => put_bucket_acl(bucket, acl),
+        Row::DeleteBucket => objects_op(ObjectsOp::DeleteBucket(bucket)),
+        Row::HeadBucket => objects_op(ObjectsOp::HeadBucket(bucket)),
+        Row::GetBucketLocation => objects_op(ObjectsOp::GetLocation(bucket)),
+        Row::GetBucketAcl => objects_op(ObjectsOp::GetBucketAcl(bucket)),
         _ => unreachable!(),
     }
 }
@@ -124,250 +159,246 @@ fn or_private(acl: Option<Acl>) -> Acl
     }
 }
 
-fn create_bucket(target: &Target, acl: Acl) -> Result<Meant, Memory>
-    ensures { IfOk result (λ meant. meant ≡ Meant.Op (Op.CreateBucket target.now.bucket acl)) }
-{
-    let bucket = target.bucket.copy()?;
-    Ok(Meant::Op(Op::CreateBucket { bucket, acl }))
-}
-
-fn put_bucket_acl(target: &Target, acl: Option<Acl>) -> Result<Meant, Memory>
-    ensures { IfOk result (λ meant. meant ≡ put_acl target.now.bucket acl) }
+fn put_bucket_acl(bucket: BucketName, acl: Option<Acl>) -> Meant
+    ensures { result ≡ put_acl bucket acl }
 {
     match acl {
-        Some(acl) => {
-            let bucket = target.bucket.copy()?;
-            Ok(Meant::Op(Op::PutBucketAcl { bucket, acl }))
-        }
-        None => Ok(Meant::Refused(Code::NotImplemented)),
+        Some(acl) => objects_op(ObjectsOp::PutBucketAcl(BucketAcl { bucket, acl })),
+        None => Meant::refused(Code::NotImplemented),
     }
 }
 
-fn delete_bucket(target: &Target) -> Result<Meant, Memory>
-    ensures { IfOk result (λ meant. meant ≡ Meant.Op (Op.DeleteBucket target.now.bucket)) }
+/// The same of a row that lists what a bucket has.
+fn op_of_listing(
+    alloc: Global,
+    row: Row,
+    query: &[Pair],
+    bucket: BucketName,
+) -> Result<Meant, Memory>
+    requires lists { is_listing_of_bucket row ≡ true }
+    requires texts { has_long_text query.now ≡ false }
+    ensures { (message : Message) (target : Target) → target.bucket ≡ bucket
+        → target.query ≡ query.now
+        → IfOk result (λ meant. meant ≡ op_of row message target) }
 {
-    let bucket = target.bucket.copy()?;
-    Ok(Meant::Op(Op::DeleteBucket { bucket }))
+    match row {
+        Row::ListObjects => Ok(list_objects(bucket, first_asked(alloc, query)?)),
+        Row::ListObjectsV2 => Ok(list_objects(bucket, second_asked(alloc, query)?)),
+        Row::ListMultipartUploads => Ok(Meant::Op(uploads_asked(alloc, bucket, query)?)),
+        _ => unreachable!(),
+    }
 }
 
-fn head_bucket(target: &Target) -> Result<Meant, Memory>
-    ensures { IfOk result (λ meant. meant ≡ Meant.Op (Op.HeadBucket target.now.bucket)) }
+fn list_objects(bucket: BucketName, asked: Asked) -> Meant
+    requires { IsProperAsked asked }
+    ensures { result ≡ Meant.Op (ops.ListObjects bucket asked) }
 {
-    let bucket = target.bucket.copy()?;
-    Ok(Meant::Op(Op::HeadBucket { bucket }))
+    objects_op(ObjectsOp::ListObjects(ObjectListing {
+        bucket,
+        asked: Proper::of(asked),
+    }))
 }
 
-fn get_location(target: &Target) -> Result<Meant, Memory>
-    ensures { IfOk result (λ meant. meant ≡ Meant.Op (Op.GetLocation target.now.bucket)) }
+/// The operation of a row on an object.
+fn op_of_key(
+    alloc: Global,
+    asking: &Asking<'_>,
+    message: &mut Message,
+    name: ObjectName,
+    taken: Taken,
+    body: BodyGiven,
+) -> Result<Meant, Memory>
+    requires level { (shape_of asking.now.row).level ≡ level.Key }
+    requires left { IsLeft asking.now message.now [] }
+    requires bucket { name.bucket ≡ asking.now.target.now.bucket }
+    requires key { name.key ≡ asking.now.target.now.key }
+    requires taken { taken ≡ given asking.now.row message.now.headers }
+    requires list { body.list ≡ given_list asking.now.row message.now.body }
+    requires digest { IsDigestOf body.digest message.now.body }
+    ensures value { IfOk result (λ meant. meant ≡ op_of asking.now.row message.entry.now
+        asking.now.target.now) }
+    ensures keeps { KeepsFront message.entry.now message.exit.now }
 {
-    let bucket = target.bucket.copy()?;
-    Ok(Meant::Op(Op::GetLocation { bucket }))
-}
-
-fn get_bucket_acl(target: &Target) -> Result<Meant, Memory>
-    ensures { IfOk result (λ meant. meant ≡ Meant.Op (Op.GetBucketAcl target.now.bucket)) }
-{
-    let bucket = target.bucket.copy()?;
-    Ok(Meant::Op(Op::GetBucketAcl { bucket }))
+    match asking.row {
+        Row::PutObject => Ok(put_object(alloc, message, name, taken, body.digest)),
+        Row::UploadPart => upload_part(
+            alloc,
+            asking.target.query.pairs(),
+            message,
+            name,
+            body.digest,
+        ),
+        _ => op_of_key_alone(alloc, asking, message, name, taken, body.list),
+    }
 }
 
 fn put_object(
     alloc: Global,
     message: &mut Message,
-    target: &Target,
+    name: ObjectName,
     taken: Taken,
     digest: Option<[u8; 16]>,
-) -> Result<Meant, Memory>
+) -> Meant
     requires digest { IsDigestOf digest message.now.body }
-    ensures value { IfOk result (λ meant. meant ≡ Meant.Op (Op.PutObject target.now.bucket
-        target.now.key taken.acl taken.content_type taken.meta message.entry.now.body)) }
+    requires sized { length message.now.body ≤ most_body_bytes }
+    ensures value { result ≡ Meant.Op (ops.PutObject name.bucket name.key taken.acl
+        taken.described.content_type taken.described.meta message.entry.now.body Always) }
     ensures keeps { KeepsFront message.entry.now message.exit.now }
 {
-    let (bucket, key) = bucket_and_key_of(target)?;
-    Ok(Meant::Op(Op::PutObject {
-        bucket,
-        key,
+    let described = taken.described.into_value();
+    let body = Body::with(mem::replace(&mut message.body, Bytes::new(alloc)), digest);
+    objects_op(ObjectsOp::PutObject(ObjectPut {
+        bucket: name.bucket,
+        key: name.key,
         acl: taken.acl,
-        content_type: taken.content_type,
-        meta: taken.meta,
-        body: Body::with(mem::replace(&mut message.body, Bytes::new(alloc)), digest),
-    }))
-}
-
-/// The bucket and the key of the target.
-fn bucket_and_key_of(target: &Target) -> Result<(Bytes, Bytes), Memory>
-    ensures { IfOk result
-        (λ copies. copies ≡ record { 0 = target.now.bucket; 1 = target.now.key }) }
-{
-    let bucket = target.bucket.copy()?;
-    let key = target.key.copy()?;
-    Ok((bucket, key))
-}
-
-fn list_objects(alloc: Global, target: &Target) -> Result<Meant, Memory>
-    ensures { IfOk result (λ meant. meant ≡ Meant.Op
-        (Op.ListObjects target.now.bucket (first_asked target.now.query))) }
-{
-    let bucket = target.bucket.copy()?;
-    let asked = first_asked(alloc, target.query.pairs())?;
-    Ok(Meant::Op(Op::ListObjects { bucket, asked }))
-}
-
-fn list_objects_v2(alloc: Global, target: &Target) -> Result<Meant, Memory>
-    ensures { IfOk result (λ meant. meant ≡ Meant.Op
-        (Op.ListObjects target.now.bucket (second_asked target.now.query))) }
-{
-    let bucket = target.bucket.copy()?;
-    let asked = second_asked(alloc, target.query.pairs())?;
-    Ok(Meant::Op(Op::ListObjects { bucket, asked }))
-}
-
-fn get_object(alloc: Global, headers: &[Pair], target: &Target) -> Result<Meant, Memory>
-    ensures { IfOk result (λ meant. meant ≡ Meant.Op (Op.GetObject target.now.bucket target.now.key
-        (given_range headers.now) (given_conditions headers.now))) }
-{
-    let range = given_range(alloc, headers)?;
-    let (bucket, key) = bucket_and_key_of(target)?;
-    let conditions = given_conditions(alloc, headers)?;
-    Ok(Meant::Op(Op::GetObject {
-        bucket,
-        key,
-        range,
-        conditions,
-    }))
-}
-
-fn head_object(alloc: Global, headers: &[Pair], target: &Target) -> Result<Meant, Memory>
-    ensures { IfOk result (λ meant. meant ≡ Meant.Op (Op.HeadObject target.now.bucket target.now.key
-        (given_range headers.now) (given_conditions headers.now))) }
-{
-    let range = given_range(alloc, headers)?;
-    let (bucket, key) = bucket_and_key_of(target)?;
-    let conditions = given_conditions(alloc, headers)?;
-    Ok(Meant::Op(Op::HeadObject {
-        bucket,
-        key,
-        range,
-        conditions,
-    }))
-}
-
-fn delete_object(target: &Target) -> Result<Meant, Memory>
-    ensures { IfOk result
-        (λ meant. meant ≡ Meant.Op (Op.DeleteObject target.now.bucket target.now.key)) }
-{
-    let bucket = target.bucket.copy()?;
-    let key = target.key.copy()?;
-    Ok(Meant::Op(Op::DeleteObject { bucket, key }))
-}
-
-fn get_object_acl(target: &Target) -> Result<Meant, Memory>
-    ensures { IfOk result
-        (λ meant. meant ≡ Meant.Op (Op.GetObjectAcl target.now.bucket target.now.key)) }
-{
-    let bucket = target.bucket.copy()?;
-    let key = target.key.copy()?;
-    Ok(Meant::Op(Op::GetObjectAcl { bucket, key }))
-}
-
-fn list_uploads(alloc: Global, target: &Target) -> Result<Meant, Memory>
-    ensures { IfOk result
-        (λ meant. meant ≡ Meant.Op (uploads_asked target.now.bucket target.now.query)) }
-{
-    let bucket = target.bucket.copy()?;
-    let op = uploads_asked(alloc, bucket, target.query.pairs())?;
-    Ok(Meant::Op(op))
-}
-
-fn delete_objects(target: &Target, deletes: Deletes) -> Result<Meant, Memory>
-    ensures { IfOk result (λ meant. meant ≡ Meant.Op (deletes_asked target.now.bucket deletes)) }
-{
-    let bucket = target.bucket.copy()?;
-    Ok(Meant::Op(deletes_asked(bucket, deletes)))
-}
-
-fn create_upload(target: &Target, taken: Taken) -> Result<Meant, Memory>
-    ensures { IfOk result (λ meant. meant ≡ Meant.Op (Op.CreateUpload target.now.bucket
-        target.now.key taken.acl taken.content_type taken.meta)) }
-{
-    let (bucket, key) = bucket_and_key_of(target)?;
-    Ok(Meant::Op(Op::CreateUpload {
-        bucket,
-        key,
-        acl: taken.acl,
-        content_type: taken.content_type,
-        meta: taken.meta,
+        content: Proper::of(Content {
+            content_type: described.content_type,
+            meta: described.meta,
+            body,
+        }),
+        only_if: OnlyIf::Always,
     }))
 }
 
 fn upload_part(
     alloc: Global,
+    query: &[Pair],
     message: &mut Message,
-    target: &Target,
+    name: ObjectName,
     digest: Option<[u8; 16]>,
 ) -> Result<Meant, Memory>
     requires digest { IsDigestOf digest message.now.body }
-    ensures value { IfOk result (λ meant. meant ≡ Meant.Op (Op.UploadPart target.now.bucket
-        target.now.key (given_upload target.now.query) (given_part_number target.now.query)
-        message.entry.now.body)) }
+    requires sized { length message.now.body ≤ most_body_bytes }
+    ensures value { IfOk result (λ meant. meant ≡ Meant.Op (ops.UploadPart name.bucket
+        name.key (given_upload query.now) (given_part_number query.now) message.entry.now.body)) }
     ensures keeps { KeepsFront message.entry.now message.exit.now }
 {
-    let (bucket, key) = bucket_and_key_of(target)?;
-    let id = given_upload(alloc, target.query.pairs())?;
-    Ok(Meant::Op(Op::UploadPart {
-        bucket,
-        key,
+    let id = given_upload(alloc, query)?;
+    let body = Body::with(mem::replace(&mut message.body, Bytes::new(alloc)), digest);
+    Ok(uploads_op(UploadsOp::UploadPart(PartPut {
+        bucket: name.bucket,
+        key: name.key,
         id,
-        number: given_part_number(target.query.pairs()),
-        body: Body::with(mem::replace(&mut message.body, Bytes::new(alloc)), digest),
+        number: given_part_number(query),
+        body: Proper::of(body),
+    })))
+}
+
+/// The same of a row that leaves the bytes of the body in the message.
+fn op_of_key_alone(
+    alloc: Global,
+    asking: &Asking<'_>,
+    message: &Message,
+    name: ObjectName,
+    taken: Taken,
+    list: List<Listed>,
+) -> Result<Meant, Memory>
+    requires level { (shape_of asking.now.row).level ≡ level.Key }
+    requires row { takes_body asking.now.row ≡ false }
+    requires left { IsLeft asking.now message.now [] }
+    requires bucket { name.bucket ≡ asking.now.target.now.bucket }
+    requires key { name.key ≡ asking.now.target.now.key }
+    requires taken { taken ≡ given asking.now.row message.now.headers }
+    requires list { list ≡ given_list asking.now.row message.now.body }
+    ensures { IfOk result (λ meant. meant ≡ op_of asking.now.row message.now
+        asking.now.target.now) }
+{
+    let query = asking.target.query.pairs();
+    match asking.row {
+        Row::CreateMultipartUpload => Ok(create_upload(name, taken)),
+        Row::CompleteMultipartUpload => complete_upload(alloc, query, name, list),
+        Row::ListParts => Ok(Meant::Op(parts_asked(alloc, name, query)?)),
+        Row::AbortMultipartUpload => abort_upload(alloc, query, name),
+        Row::CopyObject => Ok(Meant::Op(copy_asked(name, taken))),
+        Row::UploadPartCopy => { Ok(Meant::Op(part_copy_asked(alloc, name, query, taken.source)?)) }
+        _ => plain_op_of_key(alloc, asking.row, message.headers.as_slice(), name),
+    }
+}
+
+fn create_upload(name: ObjectName, taken: Taken) -> Meant
+    ensures { result ≡ Meant.Op (ops.CreateUpload name.bucket name.key taken.acl
+        taken.described.content_type taken.described.meta) }
+{
+    uploads_op(UploadsOp::CreateUpload(UploadStart {
+        bucket: name.bucket,
+        key: name.key,
+        acl: taken.acl,
+        described: taken.described,
     }))
 }
 
-fn list_parts(alloc: Global, target: &Target) -> Result<Meant, Memory>
+fn complete_upload(
+    alloc: Global,
+    query: &[Pair],
+    name: ObjectName,
+    list: List<Listed>,
+) -> Result<Meant, Memory>
+    requires { IsProperList list }
     ensures { IfOk result (λ meant. meant ≡ Meant.Op
-        (parts_asked target.now.bucket target.now.key target.now.query)) }
+        (ops.CompleteUpload name.bucket name.key (given_upload query.now) list Always)) }
 {
-    let (bucket, key) = bucket_and_key_of(target)?;
-    let op = parts_asked(alloc, bucket, key, target.query.pairs())?;
-    Ok(Meant::Op(op))
-}
-
-fn abort_upload(alloc: Global, target: &Target) -> Result<Meant, Memory>
-    ensures { IfOk result (λ meant. meant ≡ Meant.Op
-        (Op.AbortUpload target.now.bucket target.now.key (given_upload target.now.query))) }
-{
-    let (bucket, key) = bucket_and_key_of(target)?;
-    let id = given_upload(alloc, target.query.pairs())?;
-    Ok(Meant::Op(Op::AbortUpload { bucket, key, id }))
-}
-
-fn complete_upload(alloc: Global, target: &Target, list: List<Listed>) -> Result<Meant, Memory>
-    ensures { IfOk result (λ meant. meant ≡ Meant.Op (Op.CompleteUpload target.now.bucket
-        target.now.key (given_upload target.now.query) list)) }
-{
-    let (bucket, key) = bucket_and_key_of(target)?;
-    let id = given_upload(alloc, target.query.pairs())?;
-    Ok(Meant::Op(Op::CompleteUpload {
-        bucket,
-        key,
+    let id = given_upload(alloc, query)?;
+    Ok(uploads_op(UploadsOp::CompleteUpload(UploadCompletion {
+        bucket: name.bucket,
+        key: name.key,
         id,
-        list,
-    }))
+        list: Proper::of(list),
+        only_if: OnlyIf::Always,
+    })))
 }
 
-fn copy_object(target: &Target, taken: Taken) -> Result<Meant, Memory>
-    ensures { IfOk result
-        (λ meant. meant ≡ Meant.Op (copy_asked target.now.bucket target.now.key taken)) }
-{
-    let (bucket, key) = bucket_and_key_of(target)?;
-    Ok(Meant::Op(copy_asked(bucket, key, taken)))
-}
-
-fn upload_part_copy(alloc: Global, target: &Target, source: Source) -> Result<Meant, Memory>
+fn abort_upload(alloc: Global, query: &[Pair], name: ObjectName) -> Result<Meant, Memory>
     ensures { IfOk result (λ meant. meant ≡ Meant.Op
-        (part_copy_asked target.now.bucket target.now.key target.now.query source)) }
+        (ops.AbortUpload name.bucket name.key (given_upload query.now))) }
 {
-    let (bucket, key) = bucket_and_key_of(target)?;
-    let op = part_copy_asked(alloc, bucket, key, target.query.pairs(), source)?;
-    Ok(Meant::Op(op))
+    let id = given_upload(alloc, query)?;
+    Ok(uploads_op(UploadsOp::AbortUpload(UploadName {
+        bucket: name.bucket,
+        key: name.key,
+        id,
+    })))
+}
+
+/// The same of a row that takes nothing of the query or the body.
+fn plain_op_of_key(
+    alloc: Global,
+    row: Row,
+    headers: &[Pair],
+    name: ObjectName,
+) -> Result<Meant, Memory>
+    requires { is_plain_of_key row ≡ true }
+    ensures { (message : Message) (target : Target) → target.bucket ≡ name.bucket
+        → target.key ≡ name.key
+        → message.headers ≡ headers.now → IfOk result (λ meant. meant ≡ op_of row message target) }
+{
+    match row {
+        Row::GetObject => Ok(Meant::Op(Op::GetObject(read_of(alloc, headers, name)?))),
+        Row::HeadObject => Ok(objects_op(ObjectsOp::HeadObject(read_of(alloc, headers, name)?))),
+        Row::DeleteObject => Ok(objects_op(ObjectsOp::DeleteObject(ObjectDeletion {
+            bucket: name.bucket,
+            key: name.key,
+            only_if: OnlyIf::Always,
+        }))),
+        Row::GetObjectAcl => Ok(objects_op(ObjectsOp::GetObjectAcl(name))),
+        _ => unreachable!(),
+    }
+}
+
+/// What the headers ask of an object that is read.
+fn read_of(alloc: Global, headers: &[Pair], name: ObjectName) -> Result<ObjectRead, Memory>
+    ensures { IfOk result (λ read. read ≡ record {
+      bucket = name.bucket;
+      key = name.key;
+      range = given_range headers.now;
+      conditions = given_conditions headers.now;
+    }) }
+{
+    let range = given_range(alloc, headers)?;
+    let conditions = given_conditions(alloc, headers)?;
+    Ok(ObjectRead {
+        bucket: name.bucket,
+        key: name.key,
+        range,
+        conditions,
+    })
 }

@@ -28,5 +28,6 @@ pub use request::{canonical, canonical_query, canonical_with};
 pub use signature::{Signed, are_same_signatures, date_of, is_date_time, sign};
 pub use texts::concatenated;
 pub use verdict::{
-    has_signed_pieces, has_wrong_scope, hash_of, is_among, signature_differs, time_of, verify,
+    SignedRequest, has_signed_pieces, has_wrong_scope, hash_of, is_among, signature_differs,
+    time_of, verify,
 };

@@ -8,13 +8,12 @@ use crate::authorization::Authorization;
 use crate::moment::is_skewed;
 use crate::signature::{date_of, scope_of, signing_key};
 use crate::verdict::{
-    AUTHORIZATION, PAYLOAD, claim_of, expected_signature, has_wrong_scope, lacks_date,
-    leaves_unsigned, signature_differs, time_of,
+    AUTHORIZATION, PAYLOAD, SignedRequest, claim_of, expected_signature, has_wrong_scope,
+    lacks_date, leaves_unsigned, signature_differs, time_of,
 };
 use crate::{Keys, Refusal};
 use gate_base::{Bytes, Copying, Memory};
 use http_wire::{Message, has_header, has_single_header};
-use s3_names::Target;
 use std::alloc::Global;
 
 /// What the pieces of a body are signed from, where the head of its request was signed: the signing key, the time and the scope of
@@ -36,18 +35,17 @@ pub struct Seal {
 pub fn verify_head(
     alloc: Global,
     keys: &Keys,
-    region: &[u8],
-    message: &Message,
-    target: &Target,
-    moment: u64,
+    request: &SignedRequest<'_>,
 ) -> Result<Option<Seal>, Refusal>
-    ensures { GivesSeal result (seal_or_refusal keys.now region.now message.now target.now moment) }
+    ensures { GivesSeal result (seal_or_refusal keys.now request.now.region.now
+        request.now.message.now
+        request.now.target.now request.now.moment) }
 {
-    if !has_header(message.headers.as_slice(), AUTHORIZATION) {
+    if !has_header(request.message.headers.as_slice(), AUTHORIZATION) {
         return Ok(None);
     }
-    match claim_of(alloc, message.headers.as_slice())? {
-        Some(claim) => judge_head_claim(alloc, keys, region, message, target, moment, &claim),
+    match claim_of(alloc, request.message.headers.as_slice())? {
+        Some(claim) => judge_head_claim(alloc, keys, request, &claim),
         None => Err(Refusal::HeaderMalformed),
     }
 }
@@ -56,17 +54,16 @@ pub fn verify_head(
 fn judge_head_claim(
     alloc: Global,
     keys: &Keys,
-    region: &[u8],
-    message: &Message,
-    target: &Target,
-    moment: u64,
+    request: &SignedRequest<'_>,
     claim: &Authorization,
 ) -> Result<Option<Seal>, Refusal>
     ensures { GivesSeal result
-        (head_judged_with (secret_of claim.now.id keys.now) region.now message.now target.now moment claim.now) }
+        (head_judged_with (secret_of claim.now.id keys.now) request.now.region.now
+        request.now.message.now
+        request.now.target.now request.now.moment claim.now) }
 {
     match keys.secret(claim.id.as_slice()) {
-        Some(secret) => judge_head_by_secret(alloc, secret, region, message, target, moment, claim),
+        Some(secret) => judge_head_by_secret(alloc, secret, request, claim),
         None => Err(Refusal::UnknownKey),
     }
 }
@@ -75,18 +72,16 @@ fn judge_head_claim(
 fn judge_head_by_secret(
     alloc: Global,
     secret: &[u8],
-    region: &[u8],
-    message: &Message,
-    target: &Target,
-    moment: u64,
+    request: &SignedRequest<'_>,
     claim: &Authorization,
 ) -> Result<Option<Seal>, Refusal>
     ensures { GivesSeal result (seal_after (first_refusal
-        (head_reasons secret.now region.now message.now target.now moment claim.now))
-        (seal_of secret.now region.now message.now claim.now)) }
+        (head_reasons secret.now request.now.region.now request.now.message.now
+        request.now.target.now request.now.moment claim.now))
+        (seal_of secret.now request.now.region.now request.now.message.now claim.now)) }
 {
-    let headers = message.headers.as_slice();
-    if has_wrong_scope(region, claim) {
+    let headers = request.message.headers.as_slice();
+    if has_wrong_scope(request.region, claim) {
         return Err(Refusal::WrongScope);
     }
     if leaves_unsigned(claim, headers) {
@@ -95,17 +90,17 @@ fn judge_head_by_secret(
     if lacks_date(claim, headers) {
         return Err(Refusal::NoDate);
     }
-    if is_skewed(time_of(headers), moment) {
+    if is_skewed(time_of(headers), request.moment) {
         return Err(Refusal::Skewed);
     }
     if !has_single_header(headers, PAYLOAD) {
         return Err(Refusal::NoPayloadHash);
     }
-    let due = expected_signature(alloc, secret, region, message, target, claim)?;
+    let due = expected_signature(alloc, secret, request, claim)?;
     if signature_differs(alloc, claim, &due)? {
         return Err(Refusal::SignatureDiffers(due.canonical_hash));
     }
-    Ok(Some(seal_of(alloc, secret, region, message, claim)?))
+    Ok(Some(seal_of(alloc, secret, request.region, request.message, claim)?))
 }
 
 /// What the pieces are signed from.

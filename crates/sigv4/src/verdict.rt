@@ -21,26 +21,30 @@ const DATE: &[u8] = b"x-amz-date";
 
 pub(crate) const PAYLOAD: &[u8] = b"x-amz-content-sha256";
 
+/// A request whose signature is verified: its message and its target, at a region and at a moment, in seconds since 1970.
+#[derive(Drop)]
+pub struct SignedRequest<'a> {
+    pub message: &'a Message,
+    pub target: &'a Target,
+    pub region: &'a [u8],
+    pub moment: u64,
+}
+
 /// Who sent a request at a moment, in seconds since 1970, by its Authorization header (Amazon S3 API Reference,
 /// "Authenticating requests: using the Authorization header"): without one `Anonymous`, and `Owner` where one of the keys
 /// signed it for this region. Else the first refusal that fits, in the order of `Refusal`; `Memory` may come for any
 /// request.
 #[tactic(auto, unfolding(crate::specs::Verdict::caller_or_refusal))]
-pub fn verify(
-    alloc: Global,
-    keys: &Keys,
-    region: &[u8],
-    message: &Message,
-    target: &Target,
-    moment: u64,
-) -> Result<Caller, Refusal>
-    ensures { Gives result (caller_or_refusal keys.now region.now message.now target.now moment) }
+pub fn verify(alloc: Global, keys: &Keys, request: &SignedRequest<'_>) -> Result<Caller, Refusal>
+    ensures { Gives result (caller_or_refusal keys.now request.now.region.now
+        request.now.message.now
+        request.now.target.now request.now.moment) }
 {
-    if !has_header(message.headers.as_slice(), AUTHORIZATION) {
+    if !has_header(request.message.headers.as_slice(), AUTHORIZATION) {
         return Ok(Caller::Anonymous);
     }
-    match claim_of(alloc, message.headers.as_slice())? {
-        Some(claim) => judge_claim(alloc, keys, region, message, target, moment, &claim),
+    match claim_of(alloc, request.message.headers.as_slice())? {
+        Some(claim) => judge_claim(alloc, keys, request, &claim),
         None => Err(Refusal::HeaderMalformed),
     }
 }
@@ -49,19 +53,16 @@ pub fn verify(
 fn judge_claim(
     alloc: Global,
     keys: &Keys,
-    region: &[u8],
-    message: &Message,
-    target: &Target,
-    moment: u64,
+    request: &SignedRequest<'_>,
     claim: &Authorization,
 ) -> Result<Caller, Refusal>
     ensures { Gives result
-        (judged_with (secret_of claim.now.id keys.now) region.now message.now target.now moment claim.now) }
+        (judged_with (secret_of claim.now.id keys.now) request.now.region.now
+        request.now.message.now
+        request.now.target.now request.now.moment claim.now) }
 {
     match keys.secret(claim.id.as_slice()) {
-        Some(secret) => judge_claim_by_secret(
-            alloc, secret, region, message, target, moment, claim,
-        ),
+        Some(secret) => judge_claim_by_secret(alloc, secret, request, claim),
         None => Err(Refusal::UnknownKey),
     }
 }
@@ -70,17 +71,15 @@ fn judge_claim(
 fn judge_claim_by_secret(
     alloc: Global,
     secret: &[u8],
-    region: &[u8],
-    message: &Message,
-    target: &Target,
-    moment: u64,
+    request: &SignedRequest<'_>,
     claim: &Authorization,
 ) -> Result<Caller, Refusal>
     ensures { Gives result
-        (first_refusal (reasons secret.now region.now message.now target.now moment claim.now)) }
+        (first_refusal (reasons secret.now request.now.region.now request.now.message.now
+        request.now.target.now request.now.moment claim.now)) }
 {
-    let headers = message.headers.as_slice();
-    if has_wrong_scope(region, claim) {
+    let headers = request.message.headers.as_slice();
+    if has_wrong_scope(request.region, claim) {
         return Err(Refusal::WrongScope);
     }
     if leaves_unsigned(claim, headers) {
@@ -89,7 +88,7 @@ fn judge_claim_by_secret(
     if lacks_date(claim, headers) {
         return Err(Refusal::NoDate);
     }
-    if is_skewed(time_of(headers), moment) {
+    if is_skewed(time_of(headers), request.moment) {
         return Err(Refusal::Skewed);
     }
     if has_signed_pieces(headers) {
@@ -98,11 +97,11 @@ fn judge_claim_by_secret(
     if lacks_payload_hash(headers) {
         return Err(Refusal::NoPayloadHash);
     }
-    let due = expected_signature(alloc, secret, region, message, target, claim)?;
+    let due = expected_signature(alloc, secret, request, claim)?;
     if signature_differs(alloc, claim, &due)? {
         return Err(Refusal::SignatureDiffers(due.canonical_hash));
     }
-    if payload_differs(alloc, message)? {
+    if payload_differs(alloc, request.message)? {
         return Err(Refusal::PayloadDiffers);
     }
     Ok(Caller::Owner)
@@ -204,24 +203,28 @@ fn is_unsigned_payload(hash: &[u8]) -> bool
 pub(crate) fn expected_signature(
     alloc: Global,
     secret: &[u8],
-    region: &[u8],
-    message: &Message,
-    target: &Target,
+    request: &SignedRequest<'_>,
     claim: &Authorization,
 ) -> Result<Signed, Memory>
-    requires { lacks_date claim.now message.now.headers ≡ false }
-    ensures { IfOk result (λ due.
-        due ≡ expected secret.now region.now message.now target.now claim.now) }
+    requires { lacks_date claim.now request.now.message.now.headers ≡ false }
+    ensures { IfOk result (λ due. due ≡ expected secret.now request.now.region.now
+        request.now.message.now request.now.target.now claim.now) }
 {
-    let headers = message.headers.as_slice();
+    let headers = request.message.headers.as_slice();
     let text = canonical(
         alloc,
-        message,
-        target,
+        request.message,
+        request.target,
         claim.names.as_slice(),
         hash_of(headers),
     )?;
-    sign(alloc, secret, time_of(headers), region, text.as_slice())
+    sign(
+        alloc,
+        secret,
+        time_of(headers),
+        request.region,
+        text.as_slice(),
+    )
 }
 
 /// Whether the signature that a request bears is another than the one that is due.

@@ -15,7 +15,8 @@ use Rattle.s3_machine.specs.declared.operation.Listed.{Listed}
 use Rattle.swift_calls.specs.Account.{SwiftObject, SwiftContainer, SwiftAccount, files, find_object, on_files, put_file, remove_file}
 use Rattle.swift_calls.specs.Step.{Fit, IsContainerName, delete_object, put_object, swift_step}
 use Rattle.swift_calls.specs.declared.calls.SwiftRequest.{SwiftRequest}
-use Rattle.swift_calls.specs.declared.calls.SwiftRequest.TheVariants.{DeleteObject, PutObject}
+use Rattle.swift_calls.specs.Files.{PutObject}
+use Rattle.swift_calls.specs.declared.calls.SwiftRequest.TheVariants.{DeleteObject}
 use Rattle.upload_texts.specs.Records.{read_record}
 use Rattle.upload_texts.specs.declared.record.Record.{Record}
 use Rattle.upload_texts.specs.declared.record.Record.TheVariants.{Open, Done}

@@ -11,7 +11,8 @@ use Rattle.s3_machine.specs.declared.operation.Listed.{Listed}
 use Rattle.swift_calls.specs.declared.account.Content.TheVariants.{Plain}
 use Rattle.swift_calls.specs.Account.{SwiftObject, SwiftContainer, SwiftAccount, files, files_of, find_object, put_file, remove_file}
 use Rattle.swift_calls.specs.Bodies.{plain_bytes}
-use Rattle.swift_calls.specs.declared.calls.SwiftRequest.TheVariants.{DeleteObject, PutObject}
+use Rattle.swift_calls.specs.Files.{PutObject}
+use Rattle.swift_calls.specs.declared.calls.SwiftRequest.TheVariants.{DeleteObject}
 use Rattle.upload_texts.specs.Records.{read_record}
 use Rattle.upload_texts.specs.declared.record.Record.TheVariants.{Done}
 use Rattle.upload_records.specs.Layout.{uploads_name, segments_name}

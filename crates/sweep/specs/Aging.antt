@@ -32,6 +32,10 @@ use Rattle.leftovers.specs.Sides.{is_uploads_of}
 use Rattle.sweep.specs.Swept.{TellsSwept, files_in}
 use Rattle.sweep.specs.declared.account.Swept.{Swept}
 
+-- a container's name is that of the records beside this bucket
+abbrev pub IsRecordsOf : List ℕ → List ℕ → Type 0
+IsRecordsOf folder bucket = (is_bucket bucket ≡ true) × (folder ≡ uploads_name bucket)
+
 -- ---- one record
 
 -- it is that of a completion, whose moment is before this one; where that isn't known, the start of its upload stands for it

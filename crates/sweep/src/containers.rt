@@ -1,5 +1,5 @@
 //! The sweep of one container beside a bucket, be the bucket there or missing.
-ghost use Rattle.std.specs.Prelude.{◌≡◌, true, is_some, IfOk, None};
+ghost use Rattle.std.specs.Prelude.{◌≡◌, ℕ, List, true, is_some, IfOk, None};
 ghost use Rattle.std.specs.FinMap.{get};
 ghost use Rattle.s3_names.specs.Bucket.{is_bucket};
 ghost use Rattle.swift_calls.specs.History.{present};
@@ -66,18 +66,20 @@ fn sweep_there<W: Swift>(
 fn sweep_missing<W: Swift>(
     alloc: Global,
     store: &mut W,
-    bucket: &Bytes,
     folder: &Bytes,
     kind: Kind,
 ) -> Result<Swept, PlanFault>
-    requires bucket { is_bucket bucket.now ≡ true }
-    requires folder { folder.now ≡ folder_beside kind bucket.now }
+    requires folder { (bucket : List ℕ) × (is_bucket bucket ≡ true)
+        × (folder.now ≡ folder_beside kind bucket) }
     ensures tallies { IfOk result (Tallies (W.history store.old).called (W.history store.new).called) }
-    ensures asks { Asks (by_account (clear_calls (present (W.history store.old)) (folder_beside kind bucket.now)))
-        (W.history store.old) (W.history store.new) (IsStray (folder_beside kind bucket.now) bucket.now)
-        (SweepsSide kind bucket.now) result }
+    ensures asks { (bucket : List ℕ) → is_bucket bucket ≡ true → folder.now ≡ folder_beside kind
+        bucket
+        → Asks (by_account (clear_calls (present (W.history store.old)) (folder_beside kind
+        bucket)))
+        (W.history store.old) (W.history store.new) (IsStray (folder_beside kind bucket) bucket)
+        (SweepsSide kind bucket) result }
 {
-    let files = sweep_stray(alloc, store, bucket, folder)?;
+    let files = sweep_stray(alloc, store, folder)?;
     match kind {
         Kind::Records => Ok(Swept {
             segments: 0,
@@ -126,7 +128,7 @@ pub(crate) fn sweep_beside<W: Swift>(
     if is_listed(listed, bucket) {
         return Err(PlanFault::Inconsistent);
     }
-    sweep_missing(alloc, store, bucket, folder, kind)
+    sweep_missing(alloc, store, folder, kind)
 }
 
 /// Sweeps a container whose name is not that of records beside a bucket.

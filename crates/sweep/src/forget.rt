@@ -4,12 +4,12 @@ ghost use Rattle.s3_names.specs.Bucket.{is_bucket};
 ghost use Rattle.s3_names.specs.Key.{is_key};
 ghost use Rattle.swift_calls.specs.History.{budget};
 ghost use Rattle.swift_calls.specs.Step.{Fit, IsContainerName};
-ghost use Rattle.swift_calls.specs.declared.calls.SwiftRequest.TheVariants.{PutObject};
+ghost use Rattle.swift_calls.specs.Files.{PutObject};
 ghost use Rattle.upload_texts.specs.Records.{has_record_text, read_record};
 ghost use Rattle.upload_records.specs.Layout.{uploads_name};
 ghost use Rattle.account_calls.specs.Calls.{always, Asks};
 ghost use Rattle.account_calls.specs.declared.fault.PlanFault.TheVariants as fault;
-ghost use Rattle.sweep.specs.Aging.{dated, done_fate, fate, is_old, most_record_text, old_among, record_type, Forgetting, HasFile, HasRecord, NamesRecord, TellsAged, TellsGone};
+ghost use Rattle.sweep.specs.Aging.{dated, done_fate, fate, is_old, most_record_text, old_among, record_type, Forgetting, HasFile, HasRecord, IsRecordsOf, NamesRecord, TellsAged, TellsGone};
 ghost use Rattle.sweep.specs.Forgetting.{is_undated};
 ghost use Rattle.sweep.specs.Swept.{as_plan, plan_of};
 ghost use Rattle.sweep.specs.Walk.{ComesOf};
@@ -20,7 +20,7 @@ use gate_base::{Bytes, Copying, List, Memory, drop};
 use leftovers::get_listed_record;
 use s3_machine::body_etag;
 use std::alloc::Global;
-use swift_calls::{Swift, SwiftRequest};
+use swift_calls::{FilePut, Swift, SwiftRequest};
 use upload_texts::Record;
 
 /// What was done with the records of completions.
@@ -147,13 +147,14 @@ fn dated_record_request(
     let container = folder.copy()?;
     let name = name.copy()?;
     let content_type = Bytes::from_slice(alloc, b"application/json")?;
-    Ok(SwiftRequest::PutObject {
+    Ok(SwiftRequest::PutObject(FilePut {
         container,
         name,
         content_type,
         meta: List::new(alloc),
         body: text,
-    })
+        fresh: false,
+    }))
 }
 
 /// Puts the record of a completion anew, with the start of its upload as its moment (Object Storage API v1, "Create or replace
@@ -188,22 +189,21 @@ fn put_dated_record<W: Swift>(
 fn age_record<W: Swift>(
     alloc: Global,
     store: &mut W,
-    bucket: &Bytes,
     folder: &Bytes,
     name: &Bytes,
     told: Record,
     before: u64,
 ) -> Result<Aged, PlanFault>
-    requires bucket { is_bucket bucket.now ≡ true }
-    requires folder { folder.now ≡ uploads_name bucket.now }
+    requires folder { (bucket : List ℕ) × IsRecordsOf folder.now bucket }
     requires name { is_key name.now ≡ true }
     requires has { has_record_text told ≡ true }
     ensures counted { IfOk result (λ told. ((W.history store.new).called ≡ (W.history store.old).called + (told.forgotten + told.migrated))
         × ((W.history store.old).called ≤ budget → (W.history store.new).called ≤ budget)) }
     ensures near { (W.history store.new).called ≤ (W.history store.old).called + 1 }
-    ensures forgets { Forgetting (W.history store.old) (W.history store.new)
-        (HasRecord bucket.now name.now told) (old_among before bucket.now (name.now ∷ []))
-        (TellsAged before bucket.now (name.now ∷ [])) result }
+    ensures forgets { (bucket : List ℕ) → IsRecordsOf folder.now bucket
+        → Forgetting (W.history store.old) (W.history store.new)
+        (HasRecord bucket name.now told) (old_among before bucket (name.now ∷ []))
+        (TellsAged before bucket (name.now ∷ [])) result }
 {
     match fate_of(&told, before) {
         Fate::Left => {
@@ -235,22 +235,21 @@ fn age_record<W: Swift>(
 fn forget_record<W: Swift>(
     alloc: Global,
     store: &mut W,
-    bucket: &Bytes,
     folder: &Bytes,
     name: &Bytes,
     before: u64,
 ) -> Result<Aged, PlanFault>
-    requires bucket { is_bucket bucket.now ≡ true }
-    requires folder { folder.now ≡ uploads_name bucket.now }
+    requires folder { (bucket : List ℕ) × IsRecordsOf folder.now bucket }
     requires name { is_key name.now ≡ true }
     ensures counted { IfOk result (λ told. ((W.history store.old).called + (told.forgotten + told.migrated) < (W.history store.new).called)
         × ((W.history store.new).called ≤ budget)) }
     ensures near { (W.history store.new).called ≤ (W.history store.old).called + 2 }
-    ensures forgets { Forgetting (W.history store.old) (W.history store.new) (HasFile bucket.now name.now)
-        (old_among before bucket.now (name.now ∷ [])) (TellsAged before bucket.now (name.now ∷ [])) result }
+    ensures forgets { (bucket : List ℕ) → IsRecordsOf folder.now bucket
+        → Forgetting (W.history store.old) (W.history store.new) (HasFile bucket name.now)
+        (old_among before bucket (name.now ∷ [])) (TellsAged before bucket (name.now ∷ [])) result }
 {
     let told = get_listed_record(alloc, store, folder, name)?;
-    age_record(alloc, store, bucket, folder, name, told, before)
+    age_record(alloc, store, folder, name, told, before)
 }
 
 /// An inconsistent store, by the container and the object that it was asked for.
@@ -282,22 +281,22 @@ fn record_fault(fault: PlanFault, container: &Bytes, name: &Bytes) -> SweepFault
 pub(crate) fn forget_named_record<W: Swift>(
     alloc: Global,
     store: &mut W,
-    bucket: &Bytes,
     folder: &Bytes,
     name: &Bytes,
     before: u64,
 ) -> Result<Aged, SweepFault>
-    requires bucket { is_bucket bucket.now ≡ true }
-    requires folder { folder.now ≡ uploads_name bucket.now }
+    requires folder { (bucket : List ℕ) × IsRecordsOf folder.now bucket }
     requires name { is_key name.now ≡ true }
     ensures counted { IfOk result (λ told. ((W.history store.old).called + (told.forgotten + told.migrated) < (W.history store.new).called)
         × ((W.history store.new).called ≤ budget)) }
     ensures near { (W.history store.new).called ≤ (W.history store.old).called + 2 }
     ensures names { IfErr result (NamesRecord folder.now name.now) }
-    ensures forgets { Forgetting (W.history store.old) (W.history store.new) (HasFile bucket.now name.now)
-        (old_among before bucket.now (name.now ∷ [])) (TellsAged before bucket.now (name.now ∷ [])) (as_plan result) }
+    ensures forgets { (bucket : List ℕ) → IsRecordsOf folder.now bucket
+        → Forgetting (W.history store.old) (W.history store.new) (HasFile bucket name.now)
+        (old_among before bucket (name.now ∷ [])) (TellsAged before bucket (name.now ∷ []))
+        (as_plan result) }
 {
-    match forget_record(alloc, store, bucket, folder, name, before) {
+    match forget_record(alloc, store, folder, name, before) {
         Ok(told) => Ok(told),
         Err(fault) => Err(record_fault(fault, folder, name)),
     }

@@ -1,5 +1,5 @@
 //! The records beside all buckets are gone through: old completions are forgotten, and the others get their moment.
-ghost use Rattle.std.specs.Prelude.{◌≡◌, ◌⊎◌, ◌<◌, ◌≤◌, ◌+◌, ◌*◌, [], ◌∷◌, length, map, true, IfOk, IfSome};
+ghost use Rattle.std.specs.Prelude.{◌≡◌, ◌⊎◌, ◌<◌, ◌≤◌, ◌+◌, ◌*◌, ℕ, List, [], ◌∷◌, length, map, true, IfOk, IfSome};
 ghost use Rattle.std.specs.List.{list_all};
 ghost use Rattle.s3_names.specs.Bucket.{is_bucket};
 ghost use Rattle.s3_names.specs.Key.{is_key};
@@ -7,11 +7,10 @@ ghost use Rattle.list_pages.specs.Listing.{name_in, IsPageOf};
 ghost use Rattle.swift_calls.specs.History.{budget, present};
 ghost use Rattle.swift_calls.specs.Limits.{IsMarker};
 ghost use Rattle.swift_calls.specs.Step.{IsContainerName};
-ghost use Rattle.upload_records.specs.Layout.{uploads_name};
 ghost use Rattle.account_calls.specs.Calls.{always, Any, Asks, Met};
 ghost use Rattle.account_calls.specs.FilePages.{TellsFiles};
 ghost use Rattle.account_calls.specs.Listing.{HasNames, TellsOf};
-ghost use Rattle.sweep.specs.Aging.{AreDistinct, before_calls, names_forget_calls, old_among, old_beside, old_of, page_of, Forgetting, HasFiles, MakesForgetCalls, PaysForgetting, TellsAged, TellsAgedPage, TellsAllAged, TellsBeside, TellsSweptBefore};
+ghost use Rattle.sweep.specs.Aging.{AreDistinct, before_calls, names_forget_calls, old_among, old_beside, old_of, page_of, Forgetting, HasFiles, IsRecordsOf, MakesForgetCalls, PaysForgetting, TellsAged, TellsAgedPage, TellsAllAged, TellsBeside, TellsSweptBefore};
 ghost use Rattle.sweep.specs.Containers.{HasContainer};
 ghost use Rattle.leftovers.specs.Segments.{HasSettled};
 ghost use Rattle.sweep.specs.Swept.{as_plan};
@@ -31,26 +30,26 @@ use upload_records::uploads_container;
 fn forget_items<W: Swift>(
     alloc: Global,
     store: &mut W,
-    bucket: &Bytes,
     folder: &Bytes,
     items: &[NameItem],
     before: u64,
 ) -> Result<Aged, SweepFault>
-    requires bucket { is_bucket bucket.now ≡ true }
-    requires folder { folder.now ≡ uploads_name bucket.now }
+    requires folder { (bucket : List ℕ) × IsRecordsOf folder.now bucket }
     requires names { list_all is_key (map name_in items.now) ≡ true }
     ensures counted { IfOk result (λ told. ((W.history store.old).called + (told.forgotten + told.migrated) ≤ (W.history store.new).called)
         × ((W.history store.old).called ≤ budget → (W.history store.new).called ≤ budget)) }
     ensures near { (W.history store.new).called ≤ (W.history store.old).called + 2 * length items.now }
-    ensures forgets { AreDistinct (map name_in items.now)
-        → Forgetting (W.history store.old) (W.history store.new) (HasFiles bucket.now (map name_in items.now))
-        (old_among before bucket.now (map name_in items.now))
-        (TellsAged before bucket.now (map name_in items.now)) (as_plan result) }
+    ensures forgets { (bucket : List ℕ) → IsRecordsOf folder.now bucket
+        → AreDistinct (map name_in items.now)
+        → Forgetting (W.history store.old) (W.history store.new) (HasFiles bucket (map name_in
+        items.now))
+        (old_among before bucket (map name_in items.now))
+        (TellsAged before bucket (map name_in items.now)) (as_plan result) }
 {
     let mut forgotten = 0;
     let mut migrated = 0;
     for item in items {
-        let told = forget_named_record(alloc, store, bucket, folder, &item.name, before)?;
+        let told = forget_named_record(alloc, store, folder, &item.name, before)?;
         forgotten += told.forgotten;
         migrated += told.migrated;
     }
@@ -85,25 +84,26 @@ fn aging_page<W: Swift>(
 fn forget_page<W: Swift>(
     alloc: Global,
     store: &mut W,
-    bucket: &Bytes,
     folder: &Bytes,
     marker: &Bytes,
     before: u64,
 ) -> Result<(Aged, Option<Bytes>), SweepFault>
-    requires bucket { is_bucket bucket.now ≡ true }
-    requires folder { folder.now ≡ uploads_name bucket.now }
+    requires folder { (bucket : List ℕ) × IsRecordsOf folder.now bucket }
     requires marker { IsMarker marker.now }
     ensures counted { IfOk result (λ told. ((W.history store.old).called + (told.0.forgotten + told.0.migrated) < (W.history store.new).called)
         × ((W.history store.new).called ≤ budget)) }
     ensures is_marker { IfOk result (λ told. IfSome told.1 IsMarker) }
-    ensures forgets { Forgetting (W.history store.old) (W.history store.new) (HasSettled bucket.now)
-        (λ tree. old_among before bucket.now (page_of bucket.now marker.now tree) tree)
-        (TellsAgedPage before bucket.now marker.now) (as_plan result) }
-    ensures pays { PaysForgetting bucket.now marker.now (W.history store.old) (W.history store.new) (as_plan result) }
+    ensures forgets { (bucket : List ℕ) → IsRecordsOf folder.now bucket
+        → Forgetting (W.history store.old) (W.history store.new) (HasSettled bucket)
+        (λ tree. old_among before bucket (page_of bucket marker.now tree) tree)
+        (TellsAgedPage before bucket marker.now) (as_plan result) }
+    ensures pays { (bucket : List ℕ) → IsRecordsOf folder.now bucket
+        → PaysForgetting bucket marker.now (W.history store.old) (W.history store.new)
+        (as_plan result) }
 {
     let page = aging_page(alloc, store, folder, marker)?;
     let next = next_marker(page.as_slice())?;
-    let told = forget_items(alloc, store, bucket, folder, page.as_slice(), before)?;
+    let told = forget_items(alloc, store, folder, page.as_slice(), before)?;
     Ok((told, next))
 }
 
@@ -111,23 +111,23 @@ fn forget_page<W: Swift>(
 fn forget_records<W: Swift>(
     alloc: Global,
     store: &mut W,
-    bucket: &Bytes,
     folder: &Bytes,
     before: u64,
 ) -> Result<Aged, SweepFault>
-    requires bucket { is_bucket bucket.now ≡ true }
-    requires folder { folder.now ≡ uploads_name bucket.now }
+    requires folder { (bucket : List ℕ) × IsRecordsOf folder.now bucket }
     ensures counted { IfOk result (λ told. ((W.history store.old).called + (told.forgotten + told.migrated) ≤ (W.history store.new).called)
         × ((W.history store.new).called ≤ budget)) }
-    ensures forgets { Forgetting (W.history store.old) (W.history store.new) (HasSettled bucket.now)
-        (old_beside before bucket.now) (TellsBeside before bucket.now) (as_plan result) }
-    ensures calls { MakesForgetCalls bucket.now (W.history store.old) (W.history store.new) }
+    ensures forgets { (bucket : List ℕ) → IsRecordsOf folder.now bucket
+        → Forgetting (W.history store.old) (W.history store.new) (HasSettled bucket)
+        (old_beside before bucket) (TellsBeside before bucket) (as_plan result) }
+    ensures calls { (bucket : List ℕ) → IsRecordsOf folder.now bucket
+        → MakesForgetCalls bucket (W.history store.old) (W.history store.new) }
 {
     let mut forgotten = 0;
     let mut migrated = 0;
     let mut marker = Bytes::new(alloc);
     'pages: loop {
-        let (told, next) = forget_page(alloc, store, bucket, folder, &marker, before)?;
+        let (told, next) = forget_page(alloc, store, folder, &marker, before)?;
         forgotten += told.forgotten;
         migrated += told.migrated;
         match next {
@@ -161,7 +161,7 @@ fn forget_bucket<W: Swift>(
     ensures calls { MakesForgetCalls bucket.now (W.history store.old) (W.history store.new) }
 {
     let folder = uploads_container(alloc, bucket.as_slice())?;
-    forget_records(alloc, store, bucket, &folder, before)
+    forget_records(alloc, store, &folder, before)
 }
 
 /// The same for a container by its name, which is left without a call where it isn't a bucket's.

@@ -1,5 +1,6 @@
 pub mod Account
 pub mod Bodies
+pub mod Files
 pub mod History
 pub mod Laws
 pub mod Limits

@@ -45,14 +45,8 @@ pub enum SwiftRequest {
         marker: Bytes,
         limit: u32,
     },
-    /// Puts an object with these bytes, in place of the one that is there ("Create or replace object").
-    PutObject {
-        container: Bytes,
-        name: Bytes,
-        content_type: Bytes,
-        meta: List<Bytes>,
-        body: Bytes,
-    },
+    /// Puts an object with these bytes ("Create or replace object").
+    PutObject(FilePut),
     /// Puts an object that lists these segments, in place of the one that is there ("Static large objects").
     PutManifest {
         container: Bytes,
@@ -82,6 +76,33 @@ pub enum SwiftRequest {
         container: Bytes,
         name: Bytes,
     },
+}
+
+/// An object that is put, in place of the one that is there; where it is `fresh`, only if none is (`If-None-Match: *`).
+#[derive(Debug, Drop)]
+pub struct FilePut {
+    pub container: Bytes,
+    pub name: Bytes,
+    pub content_type: Bytes,
+    pub meta: List<Bytes>,
+    pub body: Bytes,
+    pub fresh: bool,
+}
+
+impl Copying for FilePut {
+    fn copy(&self) -> Result<FilePut, Memory> {
+        let meta = self.meta.copy()?;
+        let (container, name) = copy_call_texts(&self.container, &self.name)?;
+        let (content_type, body) = copy_call_texts(&self.content_type, &self.body)?;
+        Ok(FilePut {
+            container,
+            name,
+            content_type,
+            meta,
+            body,
+            fresh: self.fresh,
+        })
+    }
 }
 
 impl Copying for SwiftRequest {
@@ -116,13 +137,7 @@ impl Copying for SwiftRequest {
                 marker,
                 limit,
             } => copy_list_names_call(container, prefix, marker, *limit),
-            SwiftRequest::PutObject {
-                container,
-                name,
-                content_type,
-                meta,
-                body,
-            } => copy_put_object_call(container, name, content_type, meta, body),
+            SwiftRequest::PutObject(put) => Ok(SwiftRequest::PutObject(put.copy()?)),
             SwiftRequest::PutManifest {
                 container,
                 name,
@@ -209,28 +224,6 @@ fn copy_delete_object_call(container: &Bytes, name: &Bytes) -> Result<SwiftReque
     Ok(SwiftRequest::DeleteObject { container, name })
 }
 
-fn copy_put_object_call(
-    container: &Bytes,
-    name: &Bytes,
-    content_type: &Bytes,
-    meta: &List<Bytes>,
-    body: &Bytes,
-) -> Result<SwiftRequest, Memory>
-    ensures { IfOk result (λ copied. copied ≡ SwiftRequest.PutObject container.now name.now
-        content_type.now meta.now body.now) }
-{
-    let meta = meta.copy()?;
-    let (container, name) = copy_call_texts(container, name)?;
-    let (content_type, body) = copy_call_texts(content_type, body)?;
-    Ok(SwiftRequest::PutObject {
-        container,
-        name,
-        content_type,
-        meta,
-        body,
-    })
-}
-
 fn copy_put_manifest_call(
     container: &Bytes,
     name: &Bytes,
@@ -268,6 +261,8 @@ pub enum SwiftReply {
     },
     /// 404 Not Found.
     NotFound,
+    /// 412 Precondition Failed: an object is there under the name of a fresh one.
+    Exists,
     /// 409 Conflict: the container has objects.
     NotEmpty,
     /// 400 Bad Request: the segments may not be listed. There are none or too many of them, or one isn't there as it
@@ -303,6 +298,7 @@ impl Copying for SwiftReply {
             SwiftReply::Gone => Ok(SwiftReply::Gone),
             SwiftReply::Stored { etag } => Ok(SwiftReply::Stored { etag: etag.copy()? }),
             SwiftReply::NotFound => Ok(SwiftReply::NotFound),
+            SwiftReply::Exists => Ok(SwiftReply::Exists),
             SwiftReply::NotEmpty => Ok(SwiftReply::NotEmpty),
             SwiftReply::BadManifest => Ok(SwiftReply::BadManifest),
             SwiftReply::Unsatisfiable => Ok(SwiftReply::Unsatisfiable),
@@ -386,6 +382,12 @@ pub trait Swift: Counted {
         requires { Fit request.now }
         ensures { Calls (history self.old) (history self.new) request.now result };
 
+    /// The same, of which the answer is that of the newest of the replicas (Object Storage API v1, `X-Newest`): for a call that reads,
+    /// on whose answer something is deleted or overwritten. What a store tells of itself is the same, so no clause knows the two apart.
+    fn call_newest(&mut self, request: &SwiftRequest) -> Result<SwiftReply, SwiftFault>
+        requires { Fit request.now }
+        ensures { Calls (history self.old) (history self.new) request.now result };
+
     /// The calls of the history are those that are counted.
     ghost counted: { (store : Self) → (history store).called ≡ Self.called store };
 
@@ -403,5 +405,9 @@ impl<W: Swift> Swift for &mut W {
 
     fn call(&mut self, request: &SwiftRequest) -> Result<SwiftReply, SwiftFault> {
         (**self).call(request)
+    }
+
+    fn call_newest(&mut self, request: &SwiftRequest) -> Result<SwiftReply, SwiftFault> {
+        (**self).call_newest(request)
     }
 }

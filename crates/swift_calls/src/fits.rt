@@ -6,7 +6,7 @@ ghost use Rattle.swift_calls.specs.Limits.{IsText, IsObjectName, IsMarker, IsLim
 ghost use Rattle.swift_calls.specs.Step.{IsContainerName, IsMoment, IsSegmentPlace, Fit};
 ghost use Rattle.swift_calls.specs.declared.calls.SwiftRequest.TheVariants as asked;
 
-use crate::SwiftRequest;
+use crate::{FilePut, SwiftRequest};
 use gate_base::{Bytes, List, is_field};
 use slo_manifest::{MOST_SEGMENTS, Segment, is_segment};
 use text_forms::is_utf8;
@@ -49,7 +49,7 @@ fn is_fit_marker(text: &[u8]) -> bool
 fn is_fit_limit(limit: u32) -> bool
     ensures { IsTrue result ↔ IsLimit limit }
 {
-    1 <= limit && limit <= 1000
+    1 <= limit && limit <= 1001
 }
 
 fn is_fit_range(range: Option<(u64, u64)>) -> bool
@@ -115,17 +115,11 @@ fn lists_fit(container: &Bytes, prefix: &Bytes, marker: &Bytes, limit: u32) -> b
         && is_fit_page(marker, limit)
 }
 
-fn puts_fit(
-    container: &Bytes,
-    name: &Bytes,
-    content_type: &Bytes,
-    meta: &List<Bytes>,
-    body: &Bytes,
-) -> bool
-    ensures { IsTrue result ↔ Fit
-        (asked.PutObject container.now name.now content_type.now meta.now body.now) }
+fn puts_fit(put: &FilePut) -> bool
+    ensures { IsTrue result ↔ Fit (asked.PutObject put.now) }
 {
-    is_fit_object_place(container, name) && is_fit_content(content_type, meta, body)
+    is_fit_object_place(&put.container, &put.name)
+        && is_fit_content(&put.content_type, &put.meta, &put.body)
 }
 
 /// Whether a call may list a segment.
@@ -174,7 +168,7 @@ fn gets_fit(container: &Bytes, name: &Bytes, range: Option<(u64, u64)>) -> bool
 /// Whether a call is within the limits: names of containers have 1 to 256 bytes, of objects 1 to 1024, prefixes and
 /// markers at most 1028, all of UTF-8 without byte 0; a content type has 1 to 512 bytes, and each of at most 11
 /// pieces of metadata 1 to 256, of visible ASCII and spaces without a space at either end; a body has at most
-/// 1,073,741,824 bytes; a limit is 1 to 1000; a range ends at or after its first byte, below 2^63; a creation time is
+/// 1,073,741,824 bytes; a limit is 1 to 1001; a range ends at or after its first byte, below 2^63; a creation time is
 /// before the year 10000; and each of at most 1000 segments has names of these lengths, an ETag of 32 lower-case
 /// hexadecimal digits and a size from 1 to below 2^63, and no `/` in its container.
 pub fn is_fit(request: &SwiftRequest) -> bool
@@ -198,13 +192,7 @@ pub fn is_fit(request: &SwiftRequest) -> bool
             marker,
             limit,
         } => lists_fit(container, prefix, marker, *limit),
-        SwiftRequest::PutObject {
-            container,
-            name,
-            content_type,
-            meta,
-            body,
-        } => puts_fit(container, name, content_type, meta, body),
+        SwiftRequest::PutObject(put) => puts_fit(put),
         SwiftRequest::PutManifest {
             container,
             name,

@@ -11,7 +11,7 @@ mod laws;
 mod outcome;
 
 pub use account::{Content, ReadList, Stored};
-pub use calls::{Swift, SwiftFault, SwiftReply, SwiftRequest};
+pub use calls::{FilePut, Swift, SwiftFault, SwiftReply, SwiftRequest};
 pub use drops::{drop_reply, drop_request};
 pub use fits::is_fit;
 pub use heads::{NameItem, StoredHead};

@@ -65,6 +65,24 @@ impl<L: Link> SwiftClient<L> {
         self.unread.as_slice()
     }
 
+    /// One call, of whose replicas all are asked where it is the newest that is wanted.
+    fn exchange_call(
+        &mut self,
+        request: &SwiftRequest,
+        newest: bool,
+    ) -> Result<SwiftReply, SwiftFault>
+        requires fit { Fit request.now }
+        ensures { Calls (⟦<SwiftClient<L> as Swift>⟧.history self.old)
+            (⟦<SwiftClient<L> as Swift>⟧.history self.new) request.now result }
+    {
+        if self.link.calls() >= CALL_LIMIT {
+            self.own = self.own.saturating_add(1);
+            return Err(SwiftFault::Failed);
+        }
+        let written = write_call(self.alloc, &self.place, request, newest)?;
+        self.exchange_written(request, &written)
+    }
+
     /// The exchange of a call that was written, where one is left.
     fn exchange_written(
         &mut self,
@@ -135,12 +153,11 @@ impl<L: Link> Swift for SwiftClient<L> {
     } };
 
     fn call(&mut self, request: &SwiftRequest) -> Result<SwiftReply, SwiftFault> {
-        if self.link.calls() >= CALL_LIMIT {
-            self.own = self.own.saturating_add(1);
-            return Err(SwiftFault::Failed);
-        }
-        let written = write_call(self.alloc, &self.place, request)?;
-        self.exchange_written(request, &written)
+        self.exchange_call(request, false)
+    }
+
+    fn call_newest(&mut self, request: &SwiftRequest) -> Result<SwiftReply, SwiftFault> {
+        self.exchange_call(request, true)
     }
 }
 

@@ -65,6 +65,7 @@ use Rattle.swift_calls.specs.declared.calls.SwiftReply.TheVariants.{
   Gone,
   Stored,
   NotFound,
+  Exists,
   NotEmpty,
   BadManifest,
   Unsatisfiable,
@@ -98,8 +99,8 @@ abbrev pub error_phrase : ℕ → List ℕ
 error_phrase status =
     if status == 400 then codes "Bad Request" else (if status == 401 then codes "Unauthorized"
     else (if status == 404 then codes "Not Found" else (if status == 409 then codes "Conflict"
-    else (if status == 416 then codes "Range Not Satisfiable" else (if status == 503 then codes "Service Unavailable"
-    else codes "Internal Server Error")))))
+    else (if status == 412 then codes "Precondition Failed" else (if status == 416 then codes "Range Not Satisfiable"
+    else (if status == 503 then codes "Service Unavailable" else codes "Internal Server Error"))))))
 
 abbrev pub phrase_of : ℕ → List ℕ
 phrase_of status =
@@ -293,14 +294,20 @@ list_names_sent (Names items) = names_sent items
 list_names_sent NotFound = Some (bare 404)
 list_names_sent reply = None
 
-abbrev pub put_object_sent : SwiftReply → Option Sent
-put_object_sent (Stored etag) = stored_sent etag
-put_object_sent NotFound = Some (bare 404)
-put_object_sent reply = None
+-- 412, which only a fresh object is answered with
+abbrev pub exists_sent : Bool → Option Sent
+exists_sent false = None
+exists_sent true = Some (bare 412)
+
+abbrev pub put_object_sent : Bool → SwiftReply → Option Sent
+put_object_sent fresh (Stored etag) = stored_sent etag
+put_object_sent fresh NotFound = Some (bare 404)
+put_object_sent fresh Exists = exists_sent fresh
+put_object_sent fresh reply = None
 
 abbrev pub put_manifest_sent : SwiftReply → Option Sent
 put_manifest_sent BadManifest = Some (bare 400)
-put_manifest_sent reply = put_object_sent reply
+put_manifest_sent reply = put_object_sent false reply
 
 abbrev pub head_object_sent : SwiftReply → Option Sent
 head_object_sent (Head head) = head_sent head
@@ -329,7 +336,7 @@ sent_of (PutContainer container readers created) reply = put_sent reply
 sent_of (PostContainer container readers) reply = post_sent reply
 sent_of (DeleteContainer container) reply = delete_sent reply
 sent_of (ListNames container prefix marker limit) reply = list_names_sent reply
-sent_of (PutObject container name content_type meta body) reply = put_object_sent reply
+sent_of (PutObject put) reply = put_object_sent put.fresh reply
 sent_of (PutManifest container name content_type meta segments) reply = put_manifest_sent reply
 sent_of (HeadObject container name) reply = head_object_sent reply
 sent_of (GetObject container name range) reply = get_sent range reply

@@ -60,7 +60,7 @@ use Rattle.swift_calls.specs.declared.calls.SwiftRequest.TheVariants.{
 }
 use Rattle.swift_calls.specs.declared.calls.SwiftReply.{SwiftReply}
 use Rattle.swift_statuses.specs.Statuses.{missing, gone, put_reply, delete_reply}
-use Rattle.swift_calls.specs.declared.calls.SwiftReply.TheVariants.{Stored, NotFound, BadManifest, Unsatisfiable, Containers, Readers, Names, Head, Bytes, Manifest}
+use Rattle.swift_calls.specs.declared.calls.SwiftReply.TheVariants.{Stored, NotFound, Exists, BadManifest, Unsatisfiable, Containers, Readers, Names, Head, Bytes, Manifest}
 use Rattle.http_answers.specs.Framing.{IsAnswer, headers_in}
 use Rattle.swift_replies.specs.Fields.{reply_readers_in, container_created_in, etag_in, whole_size_in, head_in, reply_segments_flag_in}
 use Rattle.http_answers.specs.Fields.{answer_content_length}
@@ -160,12 +160,18 @@ head_container_reply status headers = if status == 204 then readers_reply header
 abbrev pub stored_reply : List Pair → Option SwiftReply
 stored_reply headers = option_map (λ etag. Stored etag) (etag_in headers)
 
-abbrev pub put_object_reply : ℕ → List Pair → Option SwiftReply
-put_object_reply status headers = if status == 201 then stored_reply headers else missing status
+-- 412, which only a fresh object is answered with
+abbrev pub exists_reply : Bool → Option SwiftReply
+exists_reply false = None
+exists_reply true = Some Exists
+
+abbrev pub put_object_reply : Bool → ℕ → List Pair → Option SwiftReply
+put_object_reply fresh status headers =
+    if status == 201 then stored_reply headers else (if status == 412 then exists_reply fresh else missing status)
 
 -- 400, which only a list of segments is answered with
 abbrev pub put_manifest_reply : ℕ → List Pair → Option SwiftReply
-put_manifest_reply status headers = if status == 400 then Some BadManifest else put_object_reply status headers
+put_manifest_reply status headers = if status == 400 then Some BadManifest else put_object_reply false status headers
 
 -- the segments of an answer that has some, which it says; else it is the object's own bytes
 abbrev pub manifest_by : Option Bool → List ℕ → Option SwiftReply
@@ -214,7 +220,7 @@ reply_of (PutContainer container readers created) s = put_reply s.status
 reply_of (PostContainer container readers) s = gone s.status
 reply_of (DeleteContainer container) s = delete_reply s.status
 reply_of (ListNames container prefix marker limit) s = names_reply s.status s.body
-reply_of (PutObject container name content_type meta body) s = put_object_reply s.status s.headers
+reply_of (PutObject put) s = put_object_reply put.fresh s.status s.headers
 reply_of (PutManifest container name content_type meta segments) s = put_manifest_reply s.status s.headers
 reply_of (HeadObject container name) s = head_object_reply s.status s.headers
 reply_of (GetObject container name range) s = bytes_reply range s.status s.headers s.body
@@ -231,7 +237,7 @@ asks_head (PutContainer container readers created) = false
 asks_head (PostContainer container readers) = false
 asks_head (DeleteContainer container) = false
 asks_head (ListNames container prefix marker limit) = false
-asks_head (PutObject container name content_type meta body) = false
+asks_head (PutObject put) = false
 asks_head (PutManifest container name content_type meta segments) = false
 asks_head (HeadObject container name) = true
 asks_head (GetObject container name range) = false

@@ -3,7 +3,7 @@ ghost use Rattle.std.specs.Prelude.{◌≡◌, ◌≤◌, ◌-◌, ◌+◌, min,
 ghost use Rattle.http_answers.specs.Head.{Shows};
 ghost use Rattle.http_answers.specs.declared.head.Front.TheVariants.{Whole};
 ghost use Rattle.swift_statuses.specs.Statuses.{missing, gone, put_reply, delete_reply};
-ghost use Rattle.swift_replies.specs.Answers.{ReadsAnswer, asks_head, reply_body_by_size, reply_of, containers_reply, names_reply, head_container_reply, readers_reply, put_object_reply, stored_reply, put_manifest_reply, head_object_reply, head_reply, is_part, sized_bytes_reply, part_reply, beyond, bytes_reply};
+ghost use Rattle.swift_replies.specs.Answers.{ReadsAnswer, asks_head, reply_body_by_size, reply_of, containers_reply, names_reply, head_container_reply, readers_reply, exists_reply, put_object_reply, stored_reply, put_manifest_reply, head_object_reply, head_reply, is_part, sized_bytes_reply, part_reply, beyond, bytes_reply};
 
 use crate::WireFault;
 use crate::fields::container_created_in;
@@ -97,7 +97,7 @@ pub(crate) fn reply_of(
         SwiftRequest::PostContainer { .. } => Ok(gone(status)),
         SwiftRequest::DeleteContainer { .. } => Ok(delete_reply(status)),
         SwiftRequest::ListNames { .. } => names_reply(alloc, status, body),
-        SwiftRequest::PutObject { .. } => put_object_reply(alloc, status, headers),
+        SwiftRequest::PutObject(put) => put_object_reply(alloc, put.fresh, status, headers),
         SwiftRequest::PutManifest { .. } => put_manifest_reply(alloc, status, headers),
         SwiftRequest::HeadObject { .. } => head_object_reply(alloc, status, headers),
         SwiftRequest::GetObject { range, .. } => {
@@ -161,15 +161,29 @@ fn readers_reply(headers: &[Pair]) -> Option<SwiftReply>
 
 fn put_object_reply(
     alloc: Global,
+    fresh: bool,
     status: u16,
     headers: &[Pair],
 ) -> Result<Option<SwiftReply>, Memory>
-    ensures { IfOk result (λ reply. reply ≡ put_object_reply status headers.now) }
+    ensures { IfOk result (λ reply. reply ≡ put_object_reply fresh status headers.now) }
 {
     if status == 201 {
-        stored_reply(alloc, headers)
+        return stored_reply(alloc, headers);
+    }
+    if status == 412 {
+        Ok(exists_reply(fresh))
     } else {
         Ok(missing(status))
+    }
+}
+
+fn exists_reply(fresh: bool) -> Option<SwiftReply>
+    ensures { result ≡ exists_reply fresh }
+{
+    if fresh {
+        Some(SwiftReply::Exists)
+    } else {
+        None
     }
 }
 
@@ -194,7 +208,7 @@ fn put_manifest_reply(
     if status == 400 {
         Ok(Some(SwiftReply::BadManifest))
     } else {
-        put_object_reply(alloc, status, headers)
+        put_object_reply(alloc, false, status, headers)
     }
 }
 

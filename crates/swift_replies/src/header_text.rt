@@ -73,6 +73,9 @@ fn swift_error_phrase(status: u16) -> &'static [u8]
     if status == 409 {
         return b"Conflict";
     }
+    if status == 412 {
+        return b"Precondition Failed";
+    }
     if status == 416 {
         return b"Range Not Satisfiable";
     }

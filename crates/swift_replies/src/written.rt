@@ -3,7 +3,7 @@ ghost use Rattle.std.specs.Prelude.{◌≡◌, ◌++◌, ◌&&◌, ◌∷◌, []
 ghost use Rattle.std.specs.List.{list_all};
 ghost use Rattle.swift_replies.specs.Answers.{is_part};
 ghost use Rattle.http1.specs.Head.{is_trimmed_value, print_header, print_headers};
-ghost use Rattle.swift_replies.specs.AnswerText.{answer_text, text_by, refusal, status_line, length_field, put_sent, post_sent, delete_sent, list_containers_sent, head_container_sent, list_names_sent, put_object_sent, head_object_sent, get_sent, is_spelled_created, readers_fields, readers_sent, etag_field, stored_sent, manifest_fields, object_fields, is_spelled_size, is_meta, is_head, head_sent, range_text, within_limit, bytes_by, bytes_sent, containers_sent, names_sent, list_sent, sent_text, put_manifest_sent, get_manifest_sent, segments_by, segments_sent};
+ghost use Rattle.swift_replies.specs.AnswerText.{answer_text, text_by, refusal, status_line, length_field, put_sent, post_sent, delete_sent, list_containers_sent, head_container_sent, list_names_sent, exists_sent, put_object_sent, head_object_sent, get_sent, is_spelled_created, readers_fields, readers_sent, etag_field, stored_sent, manifest_fields, object_fields, is_spelled_size, is_meta, is_head, head_sent, range_text, within_limit, bytes_by, bytes_sent, containers_sent, names_sent, list_sent, sent_text, put_manifest_sent, get_manifest_sent, segments_by, segments_sent};
 
 use crate::answers::is_part;
 use crate::header_text::{
@@ -42,7 +42,7 @@ pub fn write_answer(alloc: Global, call: &SwiftRequest, reply: &SwiftReply) -> R
         SwiftRequest::PostContainer { .. } => post_answer(alloc, reply),
         SwiftRequest::DeleteContainer { .. } => delete_answer(alloc, reply),
         SwiftRequest::ListNames { .. } => list_names_answer(alloc, reply),
-        SwiftRequest::PutObject { .. } => put_object_answer(alloc, reply),
+        SwiftRequest::PutObject(put) => put_object_answer(alloc, put.fresh, reply),
         SwiftRequest::PutManifest { .. } => put_manifest_answer(alloc, reply),
         SwiftRequest::HeadObject { .. } => head_object_answer(alloc, reply),
         SwiftRequest::GetObject { range, .. } => get_object_answer(alloc, *range, reply),
@@ -120,13 +120,24 @@ fn list_names_answer(alloc: Global, reply: &SwiftReply) -> Result<Bytes, Memory>
     }
 }
 
-fn put_object_answer(alloc: Global, reply: &SwiftReply) -> Result<Bytes, Memory>
-    ensures { IfOk result (λ text. text ≡ text_by (put_object_sent reply.now)) }
+fn put_object_answer(alloc: Global, fresh: bool, reply: &SwiftReply) -> Result<Bytes, Memory>
+    ensures { IfOk result (λ text. text ≡ text_by (put_object_sent fresh reply.now)) }
 {
     match reply {
         SwiftReply::Stored { etag } => stored_answer(alloc, etag.as_slice()),
         SwiftReply::NotFound => refusal(alloc, 404),
+        SwiftReply::Exists => exists_answer(alloc, fresh),
         _ => refusal(alloc, 500),
+    }
+}
+
+fn exists_answer(alloc: Global, fresh: bool) -> Result<Bytes, Memory>
+    ensures { IfOk result (λ text. text ≡ text_by (exists_sent fresh)) }
+{
+    if fresh {
+        refusal(alloc, 412)
+    } else {
+        refusal(alloc, 500)
     }
 }
 
@@ -135,7 +146,7 @@ fn put_manifest_answer(alloc: Global, reply: &SwiftReply) -> Result<Bytes, Memor
 {
     match reply {
         SwiftReply::BadManifest => refusal(alloc, 400),
-        _ => put_object_answer(alloc, reply),
+        _ => put_object_answer(alloc, false, reply),
     }
 }
 

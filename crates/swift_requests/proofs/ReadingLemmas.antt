@@ -11,7 +11,7 @@ use Rattle.swift_calls.specs.declared.calls.SwiftRequest.TheVariants.{PutObject,
 use Rattle.swift_replies.specs.Answers.{both, segments_in}
 use Rattle.swift_replies.specs.Fields.{meta_in}
 use Rattle.swift_requests.specs.Paths.{path_of}
-use Rattle.swift_requests.specs.Calls.{account_in, call_at, call_of, call_within, listed_by, manifest_content, path_at, path_within, plain_content, put_content, put_manifest, put_object, unasked}
+use Rattle.swift_requests.specs.Calls.{account_in, call_at, call_of, call_within, fresh_in, listed_by, manifest_content, path_at, path_within, plain_content, put_by, put_content, put_manifest, put_object, unasked}
 use Rattle.swift_requests.specs.declared.paths.Path.{Path}
 use Rattle.swift_requests.specs.declared.place.Place.{Place}
 
@@ -49,33 +49,60 @@ Content = List ℕ × List (List ℕ)
 abbrev no_content : Option Content
 no_content = None
 
-object_of : (container name body : List ℕ) (content_type : Option (List ℕ)) (meta : Option (List (List ℕ)))
-    → option_map (λ (c : Content). PutObject container name c.0 c.1 body) (both (λ t m. (t, m)) content_type meta)
-    ≡ both (λ t m. PutObject container name t m body) content_type meta
-object_of container name body None meta = refl
-object_of container name body (Some t) None = refl
-object_of container name body (Some t) (Some m) = refl
+abbrev no_fresh : Option Bool
+no_fresh = None
 
-if_unasked : (container name : List ℕ) (message : Message) (plain : Bool)
-    → option_map (λ (c : Content). PutObject container name c.0 c.1 message.body) (cond plain (put_content message.headers) None)
-    ≡ cond plain (put_object container name message) None
+-- an object with that content, for which that is asked
+abbrev made_object : List ℕ → List ℕ → List ℕ → Bool → Content → SwiftRequest
+made_object container name body fresh c =
+    PutObject (record { container = container; name = name; content_type = c.0; meta = c.1; body = body; fresh = fresh })
+
+object_of : (container name body : List ℕ) (content_type : Option (List ℕ)) (meta : Option (List (List ℕ))) (fresh : Bool)
+    → option_map (made_object container name body fresh) (both (λ t m. (t, m)) content_type meta) ≡ put_by container name body content_type meta (Some fresh)
+object_of container name body None meta fresh = refl
+object_of container name body (Some t) None fresh = refl
+object_of container name body (Some t) (Some m) fresh = refl
+
+if_unasked : (container name : List ℕ) (message : Message) (fresh plain : Bool) → Some fresh ≡ fresh_in message.headers
+    → option_map (made_object container name message.body fresh) (cond plain (put_content message.headers) None) ≡ cond plain (put_object container name message) None
 unfolding put_content
-if_unasked container name message true = object_of container name message.body (only (codes "content-type") message.headers) (meta_in message.headers)
-if_unasked container name message false = refl
+if_unasked container name message fresh true asked =
+    object_of container name message.body (only (codes "content-type") message.headers) (meta_in message.headers) fresh
+    ∙ ap (put_by container name message.body (only (codes "content-type") message.headers) (meta_in message.headers)) asked
+if_unasked container name message fresh false asked = refl
 
-by_content : (container name : List ℕ) (message : Message)
-    → option_map (λ (c : Content). PutObject container name c.0 c.1 message.body) (plain_content message) ≡ unasked message (put_object container name message)
+by_content : (container name : List ℕ) (message : Message) (fresh : Bool) → Some fresh ≡ fresh_in message.headers
+    → option_map (made_object container name message.body fresh) (plain_content message) ≡ unasked message (put_object container name message)
 unfolding plain_content
-by_content container name message = if_unasked container name message (bytes_eq (query_text message.target) [])
+by_content container name message fresh asked = if_unasked container name message fresh (bytes_eq (query_text message.target) []) asked
 
-pub object_given : (container name content_type : List ℕ) (meta : List (List ℕ)) (message : Message) → Some (content_type, meta) ≡ plain_content message
-    → Some (PutObject container name content_type meta message.body) ≡ unasked message (put_object container name message)
-object_given container name content_type meta message some =
-    ap (option_map (λ (c : Content). PutObject container name c.0 c.1 message.body)) some ∙ by_content container name message
+pub object_given : (container name content_type : List ℕ) (meta : List (List ℕ)) (fresh : Bool) (message : Message) → Some fresh ≡ fresh_in message.headers
+    → Some (content_type, meta) ≡ plain_content message
+    → Some (PutObject (record { container = container; name = name; content_type = content_type; meta = meta; body = message.body; fresh = fresh }))
+    ≡ unasked message (put_object container name message)
+object_given container name content_type meta fresh message asked some =
+    ap (option_map (made_object container name message.body fresh)) some ∙ by_content container name message fresh asked
 
-pub object_none : (container name : List ℕ) (message : Message) → no_content ≡ plain_content message → no_call ≡ unasked message (put_object container name message)
-object_none container name message none =
-    ap (option_map (λ (c : Content). PutObject container name c.0 c.1 message.body)) none ∙ by_content container name message
+pub object_none : (container name : List ℕ) (fresh : Bool) (message : Message) → Some fresh ≡ fresh_in message.headers → no_content ≡ plain_content message
+    → no_call ≡ unasked message (put_object container name message)
+object_none container name fresh message asked none =
+    ap (option_map (made_object container name message.body fresh)) none ∙ by_content container name message fresh asked
+
+-- what it asks isn't known
+none_by : (container name body : List ℕ) (content_type : Option (List ℕ)) (meta : Option (List (List ℕ))) → no_call ≡ put_by container name body content_type meta None
+none_by container name body None meta = refl
+none_by container name body (Some t) None = refl
+none_by container name body (Some t) (Some m) = refl
+
+same_none : (plain : Bool) → no_call ≡ cond plain no_call None
+same_none true = refl
+same_none false = refl
+
+pub object_unread : (container name : List ℕ) (message : Message) → no_fresh ≡ fresh_in message.headers → no_call ≡ unasked message (put_object container name message)
+object_unread container name message none =
+    same_none (bytes_eq (query_text message.target) [])
+    ∙ ap (unasked message) (none_by container name message.body (only (codes "content-type") message.headers) (meta_in message.headers)
+    ∙ ap (put_by container name message.body (only (codes "content-type") message.headers) (meta_in message.headers)) none)
 
 -- ---- PUT of an object that lists segments
 

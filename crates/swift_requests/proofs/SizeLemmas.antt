@@ -7,6 +7,7 @@ use Rattle.std.proofs.lemmas.Bool.{and_parts, and_from, cond-true}
 use Rattle.std.proofs.lemmas.Bool.Decides.{nat_tests}
 use Rattle.std.proofs.lemmas.List.Folds.{list_all-append}
 use Rattle.gate_base.specs.Ascii.{is_visible, is_digit}
+use Rattle.http1.specs.Fields.{Header}
 use Rattle.http1.specs.Head.{are_headers, is_request_line, head_refusal, request_text, print_header, print_headers}
 use Rattle.httparse.specs.Ascii.{crlf_bytes}
 use Rattle.httparse.specs.Grammar.{is_token, is_token_byte}
@@ -33,11 +34,11 @@ use Rattle.swift_calls.specs.declared.calls.SwiftRequest.TheVariants.{
   DeleteObject,
 }
 use Rattle.swift_replies.specs.AnswerText.{readers_text, created_fields, meta_fields}
-use Rattle.swift_requests.specs.CallText.{method_text, target_text, account_text, container_text, object_text, listing_text, manifest_put, manifest_get, line_text, own_fields, call_fields, body_of, range_fields}
+use Rattle.swift_requests.specs.CallText.{method_text, target_text, account_text, container_text, object_text, listing_text, manifest_put, manifest_get, line_text, newest_fields, fresh_fields, own_fields, call_fields, body_of, range_fields}
 use Rattle.swift_requests.specs.Place.{IsPlace, is_place_text}
 use Rattle.swift_requests.specs.declared.place.Place.{Place}
 use Rattle.swift_requests.proofs.AcceptLemmas.{fields_good, body_small}
-use Rattle.swift_replies.proofs.lemmas.Sizes.{few, decimal_size, header_size, headers_size, meta_size, value_most}
+use Rattle.swift_replies.proofs.lemmas.Sizes.{few, decimal_size, header_size, headers_size, joined_size, meta_size, value_most}
 use Rattle.swift_requests.proofs.CallLemmas.{account_bytes, name_bytes, text_bytes}
 use Rattle.swift_replies.proofs.lemmas.CutLemmas.{IsByte, weaker}
 use Rattle.text_forms.proofs.lemmas.Decimals.{decimal_digits}
@@ -53,7 +54,7 @@ method_good (PutContainer container readers created) = refl
 method_good (PostContainer container readers) = refl
 method_good (DeleteContainer container) = refl
 method_good (ListNames container prefix marker limit) = refl
-method_good (PutObject container name content_type meta body) = refl
+method_good (PutObject put) = refl
 method_good (PutManifest container name content_type meta segments) = refl
 method_good (HeadObject container name) = refl
 method_good (GetObject container name range) = refl
@@ -131,7 +132,8 @@ target_graphic place (ListNames c prefix marker limit) is fit =
     (both_graphic (container_text place c ++ listing_text limit marker) (codes "&prefix=")
     (both_graphic (container_text place c) (listing_text limit marker) (container_graphic place c (account_bytes place is) (name_bytes c fit.0))
     (listing_graphic limit marker (omega (arith, fit.3.1)) (text_bytes 1028 marker fit.2))) words.begins) (all_graphic prefix (text_bytes 1028 prefix fit.1))
-target_graphic place (PutObject c n content_type meta body) is fit = object_graphic place c n (account_bytes place is) (name_bytes c fit.0) (text_bytes 1024 n fit.1.1)
+target_graphic place (PutObject put) is fit =
+    object_graphic place put.container put.name (account_bytes place is) (name_bytes put.container fit.0) (text_bytes 1024 put.name fit.1.1)
 target_graphic place (PutManifest c n content_type meta segments) is fit =
     both_graphic (object_text place c n) manifest_put (object_graphic place c n (account_bytes place is) (name_bytes c fit.0) (text_bytes 1024 n fit.1.1)) words.puts
 target_graphic place (HeadObject c n) is fit = object_graphic place c n (account_bytes place is) (name_bytes c fit.0) (text_bytes 1024 n fit.1.1)
@@ -187,7 +189,7 @@ object_size place c n most few some =
     let two = length-append (container_text place c ++ codes "/") (escaped_path n) in
     (omega (arith, base.0, one, two), omega (arith, base.1, one, two, path_size n, some))
 
-listing_size : (limit : ℕ) (marker : List ℕ) → limit ≤ 1000 → length marker ≤ 1028 → length (listing_text limit marker) ≤ 3130
+listing_size : (limit : ℕ) (marker : List ℕ) → limit ≤ 1001 → length marker ≤ 1028 → length (listing_text limit marker) ≤ 3130
 listing_size limit marker low few =
     let one = length-append (codes "?format=json&limit=") (decimal limit) in
     let two = length-append (codes "?format=json&limit=" ++ decimal limit) (codes "&marker=") in
@@ -206,6 +208,10 @@ readers_size : (readers : ReadList) → length (print_header (codes "X-Container
 readers_size Nobody = omega (arith, header_size (codes "X-Container-Read") (readers_text Nobody))
 readers_size Everybody = omega (arith, header_size (codes "X-Container-Read") (readers_text Everybody))
 
+fresh_size : (fresh : Bool) → length (print_headers (fresh_fields fresh)) ≤ 18
+fresh_size false = omega arith
+fresh_size true = omega (arith, headers_size (codes "If-None-Match", codes "*") [], header_size (codes "If-None-Match") (codes "*"))
+
 range_size : (range : Option (ℕ × ℕ)) → IfSome range IsRange → length (print_headers (range_fields range)) ≤ 60
 range_size None within = omega arith
 range_size (Some range) within =
@@ -221,7 +227,7 @@ record Short (target own : List ℕ) : Type 0 where
   filled : 4 ≤ length target
   within : length target + length own ≤ 10800
 
-short_names : (place : Place) (c prefix marker : List ℕ) (limit : ℕ) → length place.account ≤ 1024 → length c ≤ 256 → length prefix ≤ 1028 → length marker ≤ 1028 → limit ≤ 1000
+short_names : (place : Place) (c prefix marker : List ℕ) (limit : ℕ) → length place.account ≤ 1024 → length c ≤ 256 → length prefix ≤ 1028 → length marker ≤ 1028 → limit ≤ 1001
     → Short (target_text place (ListNames c prefix marker limit)) []
 short_names place c prefix marker limit most few front mark low =
     let base = container_size place c most few in
@@ -248,14 +254,25 @@ short place (PostContainer c readers) most fit =
     record { filled = base.0; within = omega (arith, base.1, one, readers_size readers) }
 short place (DeleteContainer c) most fit = let base = container_size place c most fit.within in record { filled = base.0; within = omega (arith, base.1) }
 short place (ListNames c prefix marker limit) most fit = short_names place c prefix marker limit most fit.0.within fit.1.within fit.2.within fit.3.1
-short place (PutObject c n content_type meta body) most fit =
-    let base = object_size place c n most fit.0.within fit.1.1.within in
-    let one = headers_size (codes "Content-Type", content_type) (meta_fields 0 meta) in
-    let count = few meta fit.3 in
-    let rest = meta_size 0 meta (omega (arith, count)) (and_parts _ (list_all (is_field 256) meta) fit.3).1 in
+short place (PutObject put) most fit =
+    let base = object_size place put.container put.name most fit.0.within fit.1.1.within in
+    let one = headers_size (codes "Content-Type", put.content_type) (meta_fields 0 put.meta ++ fresh_fields put.fresh) in
+    let both = joined_size (meta_fields 0 put.meta) (fresh_fields put.fresh) in
+    let count = few put.meta fit.3 in
+    let rest = meta_size 0 put.meta (omega (arith, count)) (and_parts _ (list_all (is_field 256) put.meta) fit.3).1 in
     record {
       filled = base.0;
-      within = omega (arith, base.1, one, header_size (codes "Content-Type") content_type, value_most 512 content_type fit.2, rest, count);
+      within = omega (
+        arith,
+        base.1,
+        one,
+        both,
+        header_size (codes "Content-Type") put.content_type,
+        value_most 512 put.content_type fit.2,
+        rest,
+        count,
+        fresh_size put.fresh,
+      );
     }
 short place (PutManifest c n content_type meta segments) most fit =
     let base = object_size place c n most fit.0.within fit.1.1.within in
@@ -291,24 +308,33 @@ line_good place call is fit =
     and_from _ _ (method_good call)
     (and_from _ _ (and_from _ _ (filled_test (target_text place call) (short place call (account_most place is) fit).filled) (target_graphic place call is fit)) refl)
 
-pub accepted : (place : Place) (call : SwiftRequest) → IsPlace place → Fit call
-    → head_refusal (is_request_line (method_text call) (target_text place call) 1) (call_fields place call) ≡ None
-accepted place call is fit =
+pub accepted : (newest : Bool) (place : Place) (call : SwiftRequest) → IsPlace place → Fit call
+    → head_refusal (is_request_line (method_text call) (target_text place call) 1) (call_fields newest place call) ≡ None
+accepted newest place call is fit =
     cond-true (is_request_line (method_text call) (target_text place call) 1) _ _ (line_good place call is fit)
-    ∙ cond-true (are_headers (call_fields place call)) None _ (fields_good place call is fit)
+    ∙ cond-true (are_headers (call_fields newest place call)) None _ (fields_good newest place call is fit)
 
 -- ---- the whole head
 
-fields_size : (place : Place) (call : SwiftRequest) → IsPlace place → Fit call
-    → length (print_headers (call_fields place call)) ≤ length (print_headers (own_fields call)) + 2112
-fields_size place call is fit =
+newest_size : (newest : Bool) (own : List Header) → length (print_headers (newest_fields newest ++ own)) ≤ length (print_headers own) + 16
+newest_size false own = omega arith
+newest_size true own = omega (arith, headers_size (codes "X-Newest", codes "true") own, header_size (codes "X-Newest") (codes "true"))
+
+newest_count : (newest : Bool) (own : List Header) → length (newest_fields newest ++ own) ≤ suc (length own)
+newest_count false own = omega arith
+newest_count true own = omega arith
+
+fields_size : (newest : Bool) (place : Place) (call : SwiftRequest) → IsPlace place → Fit call
+    → length (print_headers (call_fields newest place call)) ≤ length (print_headers (own_fields call)) + 2128
+fields_size newest place call is fit =
     let outer = and_parts (is_place_text place.host && is_place_text place.account) (is_place_text place.token) is in
     let host = text_most place.host (and_parts (is_place_text place.host) (is_place_text place.account) outer.0).0 in
     let token = text_most place.token outer.1 in
     let size = decimal_size (length (body_of call)) (omega (arith, body_small call fit)) in
-    let last = last_header (own_fields call) (codes "Content-Length", decimal (length (body_of call))) in
-    let sum = length-append (print_headers (own_fields call)) (print_header (codes "Content-Length", decimal (length (body_of call)))) in
-    let rest = own_fields call ++ (codes "Content-Length", decimal (length (body_of call))) ∷ [] in
+    let asked = newest_fields newest ++ own_fields call in
+    let last = last_header asked (codes "Content-Length", decimal (length (body_of call))) in
+    let sum = length-append (print_headers asked) (print_header (codes "Content-Length", decimal (length (body_of call)))) in
+    let rest = asked ++ (codes "Content-Length", decimal (length (body_of call))) ∷ [] in
     let one = headers_size (codes "Host", place.host) ((codes "X-Auth-Token", place.token) ∷ rest) in
     let two = headers_size (codes "X-Auth-Token", place.token) rest in
     omega (
@@ -320,6 +346,7 @@ fields_size place call is fit =
       sum,
       one,
       two,
+      newest_size newest (own_fields call),
       header_size (codes "Host") place.host,
       header_size (codes "X-Auth-Token") place.token,
       header_size (codes "Content-Length") (decimal (length (body_of call))),
@@ -332,7 +359,7 @@ method_size (PutContainer container readers created) = omega arith
 method_size (PostContainer container readers) = omega arith
 method_size (DeleteContainer container) = omega arith
 method_size (ListNames container prefix marker limit) = omega arith
-method_size (PutObject container name content_type meta body) = omega arith
+method_size (PutObject put) = omega arith
 method_size (PutManifest container name content_type meta segments) = omega arith
 method_size (HeadObject container name) = omega arith
 method_size (GetObject container name range) = omega arith
@@ -350,12 +377,12 @@ line_size method target =
     )
 
 -- the head has less than 16,384 bytes
-pub head_size : (place : Place) (call : SwiftRequest) → IsPlace place → Fit call
-    → length (request_text (method_text call) (target_text place call) 1 (call_fields place call)) ≤ 13000
-head_size place call is fit =
-    let text = head_is place call in
-    let sum = length-append (line_text place call) (print_headers (call_fields place call) ++ crlf_bytes) in
-    let tail = length-append (print_headers (call_fields place call)) crlf_bytes in
+pub head_size : (newest : Bool) (place : Place) (call : SwiftRequest) → IsPlace place → Fit call
+    → length (request_text (method_text call) (target_text place call) 1 (call_fields newest place call)) ≤ 13000
+head_size newest place call is fit =
+    let text = head_is newest place call in
+    let sum = length-append (line_text place call) (print_headers (call_fields newest place call) ++ crlf_bytes) in
+    let tail = length-append (print_headers (call_fields newest place call)) crlf_bytes in
     omega (
       arith,
       ap length text,
@@ -364,7 +391,7 @@ head_size place call is fit =
       line_size (method_text call) (target_text place call),
       method_size call,
       (short place call (account_most place is) fit).within,
-      fields_size place call is fit,
+      fields_size newest place call is fit,
     )
 
 -- ---- how many fields
@@ -373,7 +400,11 @@ meta_count : (index : ℕ) (pieces : List (List ℕ)) → length (meta_fields in
 meta_count index [] = refl
 meta_count index (piece ∷ pieces) = ap suc (meta_count (index + 1) pieces)
 
-own_count : (call : SwiftRequest) → Fit call → length (own_fields call) ≤ 12
+fresh_count : (fresh : Bool) → length (fresh_fields fresh) ≤ 1
+fresh_count false = omega arith
+fresh_count true = omega arith
+
+own_count : (call : SwiftRequest) → Fit call → length (own_fields call) ≤ 13
 own_count (ListContainers marker limit) fit = omega arith
 own_count (HeadContainer container) fit = omega arith
 own_count (PutContainer container readers None) fit = omega arith
@@ -381,7 +412,8 @@ own_count (PutContainer container readers (Some moment)) fit = omega arith
 own_count (PostContainer container readers) fit = omega arith
 own_count (DeleteContainer container) fit = omega arith
 own_count (ListNames container prefix marker limit) fit = omega arith
-own_count (PutObject container name content_type meta body) fit = omega (arith, meta_count 0 meta, few meta fit.3)
+own_count (PutObject put) fit =
+    omega (arith, length-append (meta_fields 0 put.meta) (fresh_fields put.fresh), meta_count 0 put.meta, few put.meta fit.3, fresh_count put.fresh)
 own_count (PutManifest container name content_type meta segments) fit = omega (arith, meta_count 0 meta, few meta fit.3)
 own_count (HeadObject container name) fit = omega arith
 own_count (GetObject container name None) fit = omega arith
@@ -390,6 +422,6 @@ own_count (GetManifest container name) fit = omega arith
 own_count (DeleteObject container name) fit = omega arith
 
 -- fewer than 100 fields
-pub fields_count : (place : Place) (call : SwiftRequest) → Fit call → length (call_fields place call) ≤ 15
-fields_count place call fit =
-    omega (arith, own_count call fit, length-append (own_fields call) ((codes "Content-Length", decimal (length (body_of call))) ∷ []))
+pub fields_count : (newest : Bool) (place : Place) (call : SwiftRequest) → Fit call → length (call_fields newest place call) ≤ 17
+fields_count newest place call fit =
+    omega (arith, own_count call fit, newest_count newest (own_fields call), length-append (newest_fields newest ++ own_fields call) ((codes "Content-Length", decimal (length (body_of call))) ∷ []))

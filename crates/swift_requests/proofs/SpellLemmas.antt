@@ -76,38 +76,38 @@ judged message fields n headers count coding sizes small =
 
 -- ---- the whole request
 
-abbrev head_of : Place → SwiftRequest → RequestHead
-head_of place call = request_head (method_text call) (target_text place call) 1 (call_fields place call)
+abbrev head_of : Bool → Place → SwiftRequest → RequestHead
+head_of newest place call = request_head (method_text call) (target_text place call) 1 (call_fields newest place call)
 
-abbrev head_text : Place → SwiftRequest → List ℕ
-head_text place call = request_text (method_text call) (target_text place call) 1 (call_fields place call)
+abbrev head_text : Bool → Place → SwiftRequest → List ℕ
+head_text newest place call = request_text (method_text call) (target_text place call) 1 (call_fields newest place call)
 
-pub spelled : (place : Place) (call : SwiftRequest) → IsPlace place → Fit call → Spells MOST_BODY_LIMIT (call_text place call) (call_message place call)
-spelled place call is fit =
-    let good = fields_good place call is fit in
-    let headers = headers_are (call_fields place call) good in
-    let reads = (request_reads_back (method_text call) (target_text place call) 1 (call_fields place call) (body_of call) (accepted place call is fit)).reads in
-    let rest : drop (length (head_text place call)) (call_text place call) ≡ body_of call = drop-append_seam (head_text place call) (body_of call) in
+pub spelled : (newest : Bool) (place : Place) (call : SwiftRequest) → IsPlace place → Fit call → Spells MOST_BODY_LIMIT (call_text newest place call) (call_message newest place call)
+spelled newest place call is fit =
+    let good = fields_good newest place call is fit in
+    let headers = headers_are (call_fields newest place call) good in
+    let reads = (request_reads_back (method_text call) (target_text place call) 1 (call_fields newest place call) (body_of call) (accepted newest place call is fit)).reads in
+    let rest : drop (length (head_text newest place call)) (call_text newest place call) ≡ body_of call = drop-append_seam (head_text newest place call) (body_of call) in
     let small = body_small call fit in (
-      head_of place call,
-      length (head_text place call),
+      head_of newest place call,
+      length (head_text newest place call),
       length (body_of call),
-      ((reads.0, reads.1 ∙ ap (λ t. head_text place call ++ t) (sym rest)), refl, omega (arith, head_size place call is fit)),
-      judged (message_of (head_of place call)) (call_fields place call) (length (body_of call)) headers (omega (arith, fields_count place call fit))
-          (has_no_coding place call) (has_length place call) small,
-      length-append (head_text place call) (body_of call),
+      ((reads.0, reads.1 ∙ ap (λ t. head_text newest place call ++ t) (sym rest)), refl, omega (arith, head_size newest place call is fit)),
+      judged (message_of (head_of newest place call)) (call_fields newest place call) (length (body_of call)) headers (omega (arith, fields_count newest place call fit))
+          (has_no_coding newest place call) (has_length newest place call) small,
+      length-append (head_text newest place call) (body_of call),
       ap₂ (λ hs body. record { method = method_text call; target = target_text place call; old = false; headers = hs; body = body }) (sym headers) (sym rest),
     )
 
 -- what is written for a call spells it
-pub written_spells : TextReadsBack → (place : Place) (call : SwiftRequest) → IsPlace place → Fit call → SpellsRequest place call (call_text place call)
-written_spells law place call is fit = (call_message place call, spelled place call is fit, has_token place call, (call_read law place call is fit, fit))
+pub written_spells : TextReadsBack → (newest : Bool) (place : Place) (call : SwiftRequest) → IsPlace place → Fit call → SpellsRequest place call (call_text newest place call)
+written_spells law newest place call is fit = (call_message newest place call, spelled newest place call is fit, has_token newest place call, (call_read law newest place call is fit, fit))
 
-pub head_is_small : (place : Place) (call : SwiftRequest) → IsPlace place → Fit call → length (head_text place call) < 16384
-head_is_small place call is fit = omega (arith, head_size place call is fit)
+pub head_is_small : (newest : Bool) (place : Place) (call : SwiftRequest) → IsPlace place → Fit call → length (head_text newest place call) < 16384
+head_is_small newest place call is fit = omega (arith, head_size newest place call is fit)
 
-pub fields_are_few : (place : Place) (call : SwiftRequest) → Fit call → length (call_fields place call) < 100
-fields_are_few place call fit = omega (arith, fields_count place call fit)
+pub fields_are_few : (newest : Bool) (place : Place) (call : SwiftRequest) → Fit call → length (call_fields newest place call) < 100
+fields_are_few newest place call fit = omega (arith, fields_count newest place call fit)
 
 -- ---- one call
 

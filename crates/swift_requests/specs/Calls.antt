@@ -1,6 +1,6 @@
 -- Which message spells which call of an account. Source: Object Storage API v1, the call of each path by its method.
 -- Further headers are ignored, and neither `Host` nor the version is looked at.
-use Rattle.std.specs.Prelude.{◌≡◌, ⊤, ℕ, Bool, false, ◌&&◌, ◌==◌, nat_eq, nat_le, List, [], ◌∷◌, drop, codes, bytes_eq, if◌then◌else◌, Result, Ok, Err}
+use Rattle.std.specs.Prelude.{◌≡◌, ⊤, ℕ, Bool, false, true, ◌&&◌, ◌==◌, nat_eq, nat_le, List, [], ◌∷◌, drop, codes, bytes_eq, if◌then◌else◌, Result, Ok, Err}
 use Rattle.std.specs.List.{starts_with, before_first, after_first}
 use Rattle.std.specs.Prelude.{Option, None, Some, option_map, option_and_then}
 use Rattle.gate_base.specs.declared.page.Pair.{Pair}
@@ -54,9 +54,9 @@ is_json text = bytes_eq text (codes "json")
 abbrev pub up_to : ℕ → ℕ → Option ℕ
 up_to most number = if nat_le number most then Some number else None
 
--- how many names are asked for: 1000 at most
+-- how many names are asked for: 1001 at most
 abbrev pub limit_of : List ℕ → Option ℕ
-limit_of text = option_and_then (up_to 1000) (plain_number text)
+limit_of text = option_and_then (up_to 1001) (plain_number text)
 
 -- what follows `format=json&`
 abbrev pub behind_json : List ℕ → Option (List ℕ)
@@ -170,11 +170,27 @@ plain_content message = if bytes_eq (query_text message.target) [] then put_cont
 unfoldable pub manifest_content : Message → Option ((List ℕ × List (List ℕ)) × List Segment)
 manifest_content message = option_and_then (λ content. option_map (λ segments. (content, segments)) (segments_in Put message.body)) (put_content message.headers)
 
+-- `*`, of which alone a store knows what it asks
+abbrev pub fresh_from : Option (Option (List ℕ)) → Option Bool
+fresh_from None = None
+fresh_from (Some None) = Some false
+fresh_from (Some (Some value)) = if bytes_eq value (codes "*") then Some true else None
+
+-- whether an object is put only where none is there, where the header may be absent
+abbrev pub fresh_in : List Pair → Option Bool
+fresh_in headers = fresh_from (field (codes "if-none-match") headers)
+
 -- PUT of an object
+abbrev pub put_by : List ℕ → List ℕ → List ℕ → Option (List ℕ) → Option (List (List ℕ)) → Option Bool → Option SwiftRequest
+put_by container name body None meta fresh = None
+put_by container name body (Some content_type) None fresh = None
+put_by container name body (Some content_type) (Some meta) None = None
+put_by container name body (Some content_type) (Some meta) (Some fresh) =
+    Some (PutObject (record { container = container; name = name; content_type = content_type; meta = meta; body = body; fresh = fresh }))
+
 abbrev pub put_object : List ℕ → List ℕ → Message → Option SwiftRequest
 put_object container name message =
-    both (λ content_type meta. PutObject container name content_type meta message.body) (only (codes "content-type") message.headers)
-    (meta_in message.headers)
+    put_by container name message.body (only (codes "content-type") message.headers) (meta_in message.headers) (fresh_in message.headers)
 
 -- the query is `multipart-manifest=WORD`
 abbrev pub is_word : List ℕ → Option (List ℕ) → Bool

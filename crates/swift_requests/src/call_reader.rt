@@ -1,20 +1,20 @@
 //! Calls read from messages.
-ghost use Rattle.std.specs.Prelude.{◌≡◌, [], not, IfOk, bytes_eq};
+ghost use Rattle.std.specs.Prelude.{◌≡◌, [], not, IfOk, Some, bytes_eq};
 ghost use Rattle.http_wire.specs.declared.message.Message.{Message};
 ghost use Rattle.s3_names.specs.Target.{query_text};
 ghost use Rattle.swift_requests.specs.Place.{IsPlace};
-ghost use Rattle.swift_requests.specs.Calls.{ReadsCall, account_call, account_in, asks_manifest, asks_segments, bare_object_call, bodiless, call_at, call_of, container_call, container_call_by_method, has_call_method, is_word, manifest_content, object_call, path_at, plain_content, post_container, put_call, put_container, put_content, put_manifest, put_object, readers_given, small_object_call, unasked};
+ghost use Rattle.swift_requests.specs.Calls.{ReadsCall, account_call, account_in, asks_manifest, asks_segments, bare_object_call, bodiless, call_at, call_of, container_call, container_call_by_method, fresh_from, fresh_in, has_call_method, is_word, manifest_content, object_call, path_at, plain_content, post_container, put_call, put_container, put_content, put_manifest, put_object, readers_given, small_object_call, unasked};
 
 use crate::Place;
 use crate::listings::{containers_listing_call, last_call_query_value, names_listing_call};
 use crate::paths::{Path, account_in, read_call_path};
 use crate::ranges::call_range_in;
 use gate_base::{Bytes, List, Memory, Pair, cut};
-use http_answers::only;
+use http_answers::{field, only};
 use http_wire::Message;
 use slo_manifest::{Form, Segment};
 use std::alloc::Global;
-use swift_calls::{ReadList, SwiftRequest, drop_request, is_fit};
+use swift_calls::{FilePut, ReadList, SwiftRequest, drop_request, is_fit};
 use swift_replies::{
     WireFault, container_created_in, container_readers_by_value, meta_in, spelled_segments_in,
 };
@@ -277,7 +277,7 @@ fn put_manifest(
 }
 
 /// PUT of an object that lists none, which has no query. The body isn't copied.
-#[tactic(auto, using(crate::proofs::ReadingLemmas::object_given, crate::proofs::ReadingLemmas::object_none))]
+#[tactic(auto, using(crate::proofs::ReadingLemmas::object_given, crate::proofs::ReadingLemmas::object_none, crate::proofs::ReadingLemmas::object_unread))]
 fn put_plain_object(
     alloc: Global,
     container: Bytes,
@@ -287,15 +287,40 @@ fn put_plain_object(
     ensures { IfOk result
         (λ call. call ≡ unasked message (put_object container name message)) }
 {
+    let Some(fresh) = fresh_in(message.headers.as_slice()) else {
+        return Ok(None);
+    };
     match plain_content(alloc, &message)? {
-        Some((content_type, meta)) => Ok(Some(SwiftRequest::PutObject {
+        Some((content_type, meta)) => Ok(Some(SwiftRequest::PutObject(FilePut {
             container,
             name,
             content_type,
             meta,
             body: message.body,
-        })),
+            fresh,
+        }))),
         None => Ok(None),
+    }
+}
+
+/// Whether an object is put only where none is there: `If-None-Match: *`, and no other value of that header.
+fn fresh_in(headers: &[Pair]) -> Option<bool>
+    ensures { result ≡ fresh_in headers.now }
+{
+    match field(headers, b"if-none-match") {
+        Some(Some(value)) => fresh_by(value),
+        Some(None) => Some(false),
+        None => None,
+    }
+}
+
+fn fresh_by(value: &[u8]) -> Option<bool>
+    ensures { result ≡ fresh_from (Some (Some value.now)) }
+{
+    if value == b"*".as_slice() {
+        Some(true)
+    } else {
+        None
     }
 }
 

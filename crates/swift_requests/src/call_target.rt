@@ -43,12 +43,14 @@ pub(crate) fn append_target(
         SwiftRequest::GetManifest { container, name } => {
             append_manifest_target(alloc, text, place, container, name, b"get")
         }
-        SwiftRequest::PutObject {
-            container,
-            name,
-            ..
-        }
-        | SwiftRequest::HeadObject { container, name }
+        SwiftRequest::PutObject(put) => append_object_path(
+            alloc,
+            text,
+            place,
+            &put.container,
+            &put.name,
+        ),
+        SwiftRequest::HeadObject { container, name }
         | SwiftRequest::GetObject {
             container,
             name,

@@ -11,7 +11,7 @@ use std::alloc::Global;
 use swift_calls::SwiftRequest;
 
 /// The most names that are asked for at once.
-const MOST_NAMES: u64 = 1000;
+const MOST_NAMES: u64 = 1001;
 
 /// The listing of containers that a query asks for: `format=json&limit=N&marker=M`.
 #[tactic(auto, using(crate::proofs::ListingLemmas::containers_no_limit))]
@@ -183,7 +183,7 @@ fn is_json(text: &[u8]) -> bool
     text == b"json".as_slice()
 }
 
-/// How many names are asked for: 1000 at most.
+/// How many names are asked for: 1001 at most.
 fn limit_of(text: &[u8]) -> Option<u32>
     ensures { result ≡ limit_of text.now }
 {

@@ -18,10 +18,11 @@ use Rattle.slo_manifest.specs.declared.Segment.{Segment}
 use Rattle.swift_calls.specs.Bodies.{Look, is_good_list, listed_in, bytes_of, etag_of, etag_text, head_of, item_of, joined_etags}
 use Rattle.gate_base.specs.Fields.{is_field, is_printable}
 use Rattle.swift_calls.specs.Limits.{IsRange, is_content_type, most_segments}
-use Rattle.swift_calls.specs.Step.{IsMoment, IsSegmentPlace, manifest_by, manifest_reply, put_listed, put_manifest, is_bare, is_listed, names_reply, items_reply, head_container, put_container, post_container, delete_by, delete_container, put_object, head_reply, get_reply, body_reply, part_reply, delete_object}
+use Rattle.swift_calls.specs.Step.{IsMoment, IsSegmentPlace, is_taken, plain_file, put_unless, manifest_by, manifest_reply, put_listed, put_manifest, is_bare, is_listed, names_reply, items_reply, head_container, put_container, post_container, delete_by, delete_container, put_object, head_reply, get_reply, body_reply, part_reply, delete_object}
 use Rattle.swift_calls.specs.declared.account.ReadList.{ReadList}
 use Rattle.swift_calls.specs.declared.account.Content.{Content}
 use Rattle.swift_calls.specs.declared.account.Content.TheVariants.{Plain, Segments}
+use Rattle.swift_calls.specs.declared.calls.FilePut.{FilePut}
 use Rattle.swift_replies.specs.Answers.{is_part}
 use Rattle.swift_replies.specs.AnswerText.{
   Sent,
@@ -229,11 +230,16 @@ delete_row (Some folder) c account = by (is_bare folder)
     by true = refl
     by false = refl
 
-pub stored_row : (v : Option SwiftContainer) (c n content_type : List ℕ) (meta : List (List ℕ)) (body : List ℕ) (account : SwiftAccount)
-    → is_some (put_object_sent (put_object v c n (record { content_type = content_type; meta = meta; content = Plain body }) account).reply) ≡ true
-stored_row None c n content_type meta body account = refl
-stored_row (Some folder) c n content_type meta body account =
-    stored_spelled (etag_text body) (etag_tag body) (omega (arith, etag_length body))
+stored_row : (fresh : Bool) (v : Option SwiftContainer) (put : FilePut) (account : SwiftAccount)
+    → is_some (put_object_sent fresh (put_object v put.container put.name (plain_file put) account).reply) ≡ true
+stored_row fresh None put account = refl
+stored_row fresh (Some folder) put account = stored_spelled (etag_text put.body) (etag_tag put.body) (omega (arith, etag_length put.body))
+
+pub unless_row : (fresh : Bool) (there : Option SwiftObject) (v : Option SwiftContainer) (put : FilePut) (account : SwiftAccount)
+    → is_some (put_object_sent fresh (put_unless (is_taken fresh there) (put_object v put.container put.name (plain_file put) account) account).reply) ≡ true
+unless_row false there v put account = stored_row false v put account
+unless_row true None v put account = stored_row true v put account
+unless_row true (Some file) v put account = refl
 
 pub list_row : (v : Option SwiftContainer) (c n content_type : List ℕ) (meta : List (List ℕ)) (segments : List Segment) (account : SwiftAccount)
     → is_some (put_manifest_sent (put_manifest v c n content_type meta segments account).reply) ≡ true

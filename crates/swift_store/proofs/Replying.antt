@@ -11,15 +11,16 @@ use Rattle.std.specs.List.{list_all}
 use Rattle.slo_manifest.specs.Etag.{joined_etag}
 use Rattle.slo_manifest.specs.declared.Segment.{Segment}
 use Rattle.swift_calls.specs.Bodies.{Look, etag_text, head_of, is_list, joined, joined_etags, outer_bytes, ranged, is_good_list, listed_in}
-use Rattle.swift_calls.specs.Step.{swift_step, is_bare, head_container, put_container, post_container, delete_container, delete_by, items_reply, put_object, head_reply, delete_object, get_reply, body_reply, part_reply, manifest_by, manifest_reply, put_listed, put_manifest}
+use Rattle.swift_calls.specs.Step.{Answer, swift_step, is_bare, is_taken, plain_file, put_unless, head_container, put_container, post_container, delete_container, delete_by, items_reply, put_object, head_reply, delete_object, get_reply, body_reply, part_reply, manifest_by, manifest_reply, put_listed, put_manifest}
 use Rattle.swift_calls.specs.declared.account.ReadList.{ReadList}
 use Rattle.swift_calls.specs.declared.account.Content.{Content}
 use Rattle.swift_calls.specs.declared.account.Content.TheVariants.{Plain, Segments}
 use Rattle.swift_calls.specs.declared.heads.StoredHead.{StoredHead}
 use Rattle.swift_calls.specs.declared.heads.NameItem.{NameItem}
+use Rattle.swift_calls.specs.declared.calls.FilePut.{FilePut}
 use Rattle.swift_calls.specs.declared.calls.SwiftRequest.TheVariants.{HeadContainer, PutContainer, PostContainer, DeleteContainer, ListNames, PutObject, PutManifest, HeadObject, GetObject, GetManifest, DeleteObject}
 use Rattle.swift_calls.specs.declared.calls.SwiftReply.{SwiftReply}
-use Rattle.swift_calls.specs.declared.calls.SwiftReply.TheVariants.{Made, There, Gone, Stored, NotFound, NotEmpty, Unsatisfiable, Readers, Names, Head, Bytes, Manifest}
+use Rattle.swift_calls.specs.declared.calls.SwiftReply.TheVariants.{Made, There, Gone, Stored, NotFound, Exists, NotEmpty, Unsatisfiable, Readers, Names, Head, Bytes, Manifest}
 use Rattle.swift_store.specs.Listed.{is_outer, segments_at, window}
 use Rattle.swift_store.specs.Shelf.{container_head, object_page, part, part_of}
 use Rattle.swift_store.proofs.Joining.{joined_length, outer_sized}
@@ -116,21 +117,49 @@ module _ (n : List ℕ) (account : SwiftAccount) where
       by None e = refl
       by (Some c) e = absurd (true≢false e)
 
-  pub stored_there : (name content_type : List ℕ) (meta : List (List ℕ)) (body etag : List ℕ) (head : Option (ReadList × Option ℕ)) → head ≡ option_map container_head (get account n) → is_some head ≡ true → etag ≡ etag_text body
-      → Stored etag ≡ (swift_step (PutObject n name content_type meta body) account).reply
-  stored_there name content_type meta body etag head e is tag = ap Stored tag ∙ by (get account n) (sym (is_there head e) ∙ is)
+-- ---- PUT of an object
+
+module _ (put : FilePut) (account : SwiftAccount) where
+  abbrev there : Option SwiftObject
+  there = find_object account put.container put.name
+
+  abbrev free : Answer
+  free = put_object (get account put.container) put.container put.name (plain_file put) account
+
+  pub stored_there : (etag : List ℕ) (head : Option (ReadList × Option ℕ)) → head ≡ option_map container_head (get account put.container) → is_some head ≡ true → etag ≡ etag_text put.body
+      → Stored etag ≡ free.reply
+  stored_there etag head e is tag = ap Stored tag ∙ by (get account put.container) (sym (is_there put.container account head e) ∙ is)
     where
-      by : (v : Option SwiftContainer) → is_some v ≡ true → Stored (etag_text body) ≡ (put_object v n name (record { content_type = content_type; meta = meta; content = Plain body }) account).reply
+      by : (v : Option SwiftContainer) → is_some v ≡ true → Stored (etag_text put.body) ≡ (put_object v put.container put.name (plain_file put) account).reply
       by None e = absurd (true≢false (sym e))
       by (Some c) e = refl
 
-  pub stored_missing : (name content_type : List ℕ) (meta : List (List ℕ)) (body : List ℕ) (head : Option (ReadList × Option ℕ)) → head ≡ option_map container_head (get account n) → is_some head ≡ false
-      → NotFound ≡ (swift_step (PutObject n name content_type meta body) account).reply
-  stored_missing name content_type meta body head e is = by (get account n) (sym (is_there head e) ∙ is)
+  pub stored_missing : (head : Option (ReadList × Option ℕ)) → head ≡ option_map container_head (get account put.container) → is_some head ≡ false → NotFound ≡ free.reply
+  stored_missing head e is = by (get account put.container) (sym (is_there put.container account head e) ∙ is)
     where
-      by : (v : Option SwiftContainer) → is_some v ≡ false → NotFound ≡ (put_object v n name (record { content_type = content_type; meta = meta; content = Plain body }) account).reply
+      by : (v : Option SwiftContainer) → is_some v ≡ false → NotFound ≡ (put_object v put.container put.name (plain_file put) account).reply
       by None e = refl
       by (Some c) e = absurd (true≢false e)
+
+  -- a fresh one is taken where something is there
+  pub taken_fresh : (head : Option StoredHead) → put.fresh ≡ true → head ≡ option_map head_of there → is_some head ≡ is_taken put.fresh there
+  taken_fresh head fresh e = ap is_some e ∙ by there ∙ sym (ap (λ b. is_taken b there) fresh)
+    where
+      by : (v : Option SwiftObject) → is_some (option_map head_of v) ≡ is_some v
+      by None = refl
+      by (Some object) = refl
+
+  pub taken_other : put.fresh ≡ false → false ≡ is_taken put.fresh there
+  taken_other other = sym (ap (λ b. is_taken b there) other)
+
+  pub put_taken : (taken : Bool) → taken ≡ is_taken put.fresh there → taken ≡ true → Exists ≡ (swift_step (PutObject put) account).reply
+  put_taken taken e is = ap (λ b. (put_unless b free account).reply) (sym is ∙ e)
+
+  -- the reply is told a call later, of the same account
+  pub put_free : (taken : Bool) (reply : SwiftReply) (later : SwiftAccount) → taken ≡ is_taken put.fresh there → taken ≡ false → later ≡ account
+      → reply ≡ (put_object (get later put.container) put.container put.name (plain_file put) later).reply → reply ≡ (swift_step (PutObject put) account).reply
+  put_free taken reply later e is same told =
+      told ∙ ap (λ a. (put_object (get a put.container) put.container put.name (plain_file put) a).reply) same ∙ ap (λ b. (put_unless b free account).reply) (sym is ∙ e)
 
 -- ---- objects
 

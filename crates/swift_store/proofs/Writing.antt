@@ -9,9 +9,10 @@ use Rattle.swift_calls.specs.Account.{SwiftAccount, SwiftContainer, SwiftObject,
 use Rattle.swift_calls.specs.Bodies.{Look, etag_text, etag_of, is_list, is_good_list}
 use Rattle.swift_calls.specs.Limits.{most_body}
 use Rattle.swift_calls.specs.declared.account.Content.{Content}
-use Rattle.swift_calls.specs.Step.{Fit, IsMoment, swift_step, is_bare, head_container, put_container, post_container, delete_container, delete_by, put_object, delete_object, put_listed, put_manifest}
+use Rattle.swift_calls.specs.Step.{Answer, Fit, IsMoment, swift_step, is_bare, is_taken, plain_file, put_unless, head_container, put_container, post_container, delete_container, delete_by, put_object, delete_object, put_listed, put_manifest}
 use Rattle.swift_calls.specs.declared.account.ReadList.{ReadList}
 use Rattle.swift_calls.specs.declared.account.Content.TheVariants.{Plain, Segments}
+use Rattle.swift_calls.specs.declared.calls.FilePut.{FilePut}
 use Rattle.swift_calls.specs.declared.calls.SwiftRequest.TheVariants.{HeadContainer, PostContainer, DeleteContainer, PutObject, PutManifest, DeleteObject}
 use Rattle.swift_calls.specs.declared.calls.SwiftReply.{SwiftReply}
 use Rattle.swift_calls.specs.declared.calls.SwiftReply.TheVariants as replies
@@ -93,28 +94,33 @@ not_dropped n account reply gone e = by (get account n) (sym (ap is_gone_reply e
 
 -- ---- PUT of an object
 
-module _ (c n content_type : List ℕ) (meta : List (List ℕ)) (body : List ℕ) (account : SwiftAccount) where
-  abbrev object : SwiftObject
-  object = record { content_type = content_type; meta = meta; content = Plain body }
+module _ (put : FilePut) (account : SwiftAccount) where
+  abbrev taken : Bool
+  taken = is_taken put.fresh (find_object account put.container put.name)
 
-  put : (reply : SwiftReply) (etag : List ℕ) → Some etag ≡ etag_in reply → reply ≡ (swift_step (PutObject c n content_type meta body) account).reply
-      → put_file c n object account ≡ (swift_step (PutObject c n content_type meta body) account).tree
-  put reply etag tag e = by (get account c) (tag ∙ ap etag_in e)
+  abbrev put_into : Bool → Option SwiftContainer → Answer
+  put_into b v = put_unless b (put_object v put.container put.name (plain_file put) account) account
+
+  written : (reply : SwiftReply) (etag : List ℕ) → Some etag ≡ etag_in reply → reply ≡ (swift_step (PutObject put) account).reply
+      → put_file put.container put.name (plain_file put) account ≡ (swift_step (PutObject put) account).tree
+  written reply etag tag e = by taken (get account put.container) (tag ∙ ap etag_in e)
     where
-      by : (v : Option SwiftContainer) → Some etag ≡ etag_in (put_object v c n object account).reply → put_file c n object account ≡ (put_object v c n object account).tree
-      by None e = absurd (none-some _ (sym e))
-      by (Some folder) e = refl
+      by : (b : Bool) (v : Option SwiftContainer) → Some etag ≡ etag_in (put_into b v).reply → put_file put.container put.name (plain_file put) account ≡ (put_into b v).tree
+      by true v e = absurd (none-some _ (sym e))
+      by false None e = absurd (none-some _ (sym e))
+      by false (Some folder) e = refl
 
-  pub put_by : (reply : SwiftReply) (etag : List ℕ) (new : SwiftAccount) (result : Result (Unit {0}) StoreFault) → Some etag ≡ etag_in reply → reply ≡ (swift_step (PutObject c n content_type meta body) account).reply
-      → Writes account (put_file c n object account) new result → Writes account (swift_step (PutObject c n content_type meta body) account).tree new result
-  put_by reply etag new result tag e writes = subst (λ (tree : SwiftAccount). Writes account tree new result) (put reply etag tag e) writes
+  pub put_by : (reply : SwiftReply) (etag : List ℕ) (new : SwiftAccount) (result : Result (Unit {0}) StoreFault) → Some etag ≡ etag_in reply → reply ≡ (swift_step (PutObject put) account).reply
+      → Writes account (put_file put.container put.name (plain_file put) account) new result → Writes account (swift_step (PutObject put) account).tree new result
+  put_by reply etag new result tag e writes = subst (λ (tree : SwiftAccount). Writes account tree new result) (written reply etag tag e) writes
 
-  pub not_put : (reply : SwiftReply) → None ≡ etag_in reply → reply ≡ (swift_step (PutObject c n content_type meta body) account).reply → account ≡ (swift_step (PutObject c n content_type meta body) account).tree
-  not_put reply tag e = by (get account c) (tag ∙ ap etag_in e)
+  pub not_put : (reply : SwiftReply) → None ≡ etag_in reply → reply ≡ (swift_step (PutObject put) account).reply → account ≡ (swift_step (PutObject put) account).tree
+  not_put reply tag e = by taken (get account put.container) (tag ∙ ap etag_in e)
     where
-      by : (v : Option SwiftContainer) → None ≡ etag_in (put_object v c n object account).reply → account ≡ (put_object v c n object account).tree
-      by None e = refl
-      by (Some folder) e = absurd (none-some _ e)
+      by : (b : Bool) (v : Option SwiftContainer) → None ≡ etag_in (put_into b v).reply → account ≡ (put_into b v).tree
+      by true v e = refl
+      by false None e = refl
+      by false (Some folder) e = absurd (none-some _ e)
 
 -- the ETag that is answered is that of the object
 pub tagged : (body : List ℕ) (reply : SwiftReply) (etag : List ℕ) → TagsWith body reply → Some etag ≡ etag_in reply → etag ≡ etag_of (Plain body)
@@ -126,6 +132,7 @@ tagged body reply etag tags e = by reply tags e
     by replies.Gone tags e = absurd (none-some _ (sym e))
     by (replies.Stored tag) tags e = same_Some etag tag e ∙ tags
     by replies.NotFound tags e = absurd (none-some _ (sym e))
+    by replies.Exists tags e = absurd (none-some _ (sym e))
     by replies.NotEmpty tags e = absurd (none-some _ (sym e))
     by replies.BadManifest tags e = absurd (none-some _ (sym e))
     by replies.Unsatisfiable tags e = absurd (none-some _ (sym e))
@@ -157,9 +164,8 @@ list_content segments made = record {
 }
 
 -- an object that a call puts
-pub put_made : (c n content_type : List ℕ) (meta : List (List ℕ)) (body : List ℕ) → Fit (PutObject c n content_type meta body)
-    → IsMadeObject n (record { content_type = content_type; meta = meta; content = Plain body })
-put_made c n content_type meta body fit = record { named = fit.1; content_type = fit.2; meta = fit.3; content = own_made body fit.4 }
+pub put_made : (put : FilePut) → Fit (PutObject put) → IsMadeObject put.name (plain_file put)
+put_made put fit = record { named = fit.1; content_type = fit.2; meta = fit.3; content = own_made put.body fit.4 }
 
 -- ---- PUT of segments
 
@@ -204,6 +210,7 @@ list_tags segments reply etag tags e = by reply tags e
     by replies.Gone tags e = absurd (none-some _ (sym e))
     by (replies.Stored tag) tags e = (same_Some etag tag e ∙ tags.0, tags.1)
     by replies.NotFound tags e = absurd (none-some _ (sym e))
+    by replies.Exists tags e = absurd (none-some _ (sym e))
     by replies.NotEmpty tags e = absurd (none-some _ (sym e))
     by replies.BadManifest tags e = absurd (none-some _ (sym e))
     by replies.Unsatisfiable tags e = absurd (none-some _ (sym e))

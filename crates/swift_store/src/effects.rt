@@ -1,6 +1,7 @@
 //! What each call writes, once its answer is there.
 ghost use Rattle.std.specs.Prelude.{◌≡◌, IsTrue};
-ghost use Rattle.swift_calls.specs.Step.{Fit, IsContainerName, swift_step};
+ghost use Rattle.swift_calls.specs.Step.{Fit, IsContainerName, plain_file, swift_step};
+ghost use Rattle.swift_calls.specs.declared.account.Content.TheVariants.{Plain};
 ghost use Rattle.swift_calls.specs.declared.calls.SwiftRequest.TheVariants as asked;
 ghost use Rattle.swift_calls.specs.Account.{put_file};
 ghost use Rattle.swift_calls.specs.Bodies.{etag_of};
@@ -11,7 +12,9 @@ ghost use Rattle.swift_store.specs.Serving.{TagsBody, TagsList, TagsWith, etag_i
 use crate::{Shelf, StoreFault};
 use gate_base::{Bytes, List};
 use slo_manifest::Segment;
-use swift_calls::{Content, ReadList, Stored, SwiftReply, SwiftRequest, drop_reply, drop_request};
+use swift_calls::{
+    Content, FilePut, ReadList, Stored, SwiftReply, SwiftRequest, drop_reply, drop_request,
+};
 
 fn is_gone_reply(reply: &SwiftReply) -> bool
     ensures { result ≡ is_gone_reply reply.now }
@@ -71,65 +74,87 @@ fn delete_container_on_shelf<S: Shelf>(
     Ok(())
 }
 
-fn put_object_on_shelf<S: Shelf>(
-    shelf: &mut S,
-    container: &[u8],
+/// What a file is put with beside its content.
+#[derive(Drop)]
+struct FileHead {
     name: Bytes,
     content_type: Bytes,
     meta: List<Bytes>,
-    body: Bytes,
+}
+
+fn put_object_on_shelf<S: Shelf>(
+    shelf: &mut S,
+    put: FilePut,
     reply: SwiftReply,
 ) -> Result<(), StoreFault>
-    requires fit { Fit (asked.PutObject container.now name content_type meta body) }
-    requires tags { TagsWith body reply }
+    requires fit { Fit (asked.PutObject put) }
+    requires tags { TagsWith put.body reply }
     ensures keeps { ShelfKeeps (S.model shelf.old) result (S.model shelf.new) }
     ensures effect { IsTrue (S.model shelf.old).observable
-        → reply ≡ (swift_step (asked.PutObject container.now name content_type meta body)
-        (S.model shelf.old).account).reply
-        → Writes (S.model shelf.old).account (swift_step
-        (asked.PutObject container.now name content_type meta body)
-        (S.model shelf.old).account).tree (S.model shelf.new).account result }
+        → reply ≡ (swift_step (asked.PutObject put) (S.model shelf.old).account).reply
+        → Writes (S.model shelf.old).account
+        (swift_step (asked.PutObject put) (S.model shelf.old).account).tree
+        (S.model shelf.new).account result }
 {
     match etag_in(reply) {
-        Some(etag) => put_tagged_on_shelf(
-            shelf,
-            container,
-            name,
-            content_type,
-            meta,
-            Content::Plain(body),
-            etag,
-        ),
+        Some(etag) => put_plain_on_shelf(shelf, put, etag),
         None => Ok(()),
     }
+}
+
+/// Puts an object with its own bytes, which are moved.
+fn put_plain_on_shelf<S: Shelf>(shelf: &mut S, put: FilePut, etag: Bytes) -> Result<(), StoreFault>
+    requires etag { etag ≡ etag_of (Plain put.body) }
+    requires made { IsMadeObject put.name (plain_file put) }
+    ensures writes { ShelfWrites (put_file put.container put.name (plain_file put))
+        (S.model shelf.old) result (S.model shelf.new) }
+{
+    let FilePut {
+        container,
+        name,
+        content_type,
+        meta,
+        body,
+        ..
+    } = put;
+    let head = FileHead {
+        name,
+        content_type,
+        meta,
+    };
+    put_tagged_on_shelf(
+        shelf,
+        container.as_slice(),
+        head,
+        Content::Plain(body),
+        etag,
+    )
 }
 
 fn put_manifest_on_shelf<S: Shelf>(
     shelf: &mut S,
     container: &[u8],
-    name: Bytes,
-    content_type: Bytes,
-    meta: List<Bytes>,
+    head: FileHead,
     segments: List<Segment>,
     reply: SwiftReply,
 ) -> Result<(), StoreFault>
-    requires fit { Fit (asked.PutManifest container.now name content_type meta segments) }
+    requires fit { Fit (asked.PutManifest container.now head.name head.content_type head.meta
+        segments) }
     requires tags { TagsList segments reply }
     ensures keeps { ShelfKeeps (S.model shelf.old) result (S.model shelf.new) }
     ensures effect { IsTrue (S.model shelf.old).observable
-        → reply ≡ (swift_step (asked.PutManifest container.now name content_type meta segments)
+        → reply ≡ (swift_step (asked.PutManifest container.now head.name head.content_type head.meta
+        segments)
         (S.model shelf.old).account).reply
         → Writes (S.model shelf.old).account (swift_step
-        (asked.PutManifest container.now name content_type meta segments)
+        (asked.PutManifest container.now head.name head.content_type head.meta segments)
         (S.model shelf.old).account).tree (S.model shelf.new).account result }
 {
     match etag_in(reply) {
         Some(etag) => put_tagged_on_shelf(
             shelf,
             container,
-            name,
-            content_type,
-            meta,
+            head,
             Content::Segments(segments),
             etag,
         ),
@@ -141,23 +166,21 @@ fn put_manifest_on_shelf<S: Shelf>(
 fn put_tagged_on_shelf<S: Shelf>(
     shelf: &mut S,
     container: &[u8],
-    name: Bytes,
-    content_type: Bytes,
-    meta: List<Bytes>,
+    head: FileHead,
     content: Content,
     etag: Bytes,
 ) -> Result<(), StoreFault>
     requires etag { etag ≡ etag_of content }
-    requires made { IsMadeObject name
-        (record { content_type = content_type; meta = meta; content = content }) }
-    ensures writes { ShelfWrites (put_file container.now name
-        (record { content_type = content_type; meta = meta; content = content }))
+    requires made { IsMadeObject head.name
+        (record { content_type = head.content_type; meta = head.meta; content = content }) }
+    ensures writes { ShelfWrites (put_file container.now head.name
+        (record { content_type = head.content_type; meta = head.meta; content = content }))
         (S.model shelf.old) result (S.model shelf.new) }
 {
     let object = Stored {
-        name,
-        content_type,
-        meta,
+        name: head.name,
+        content_type: head.content_type,
+        meta: head.meta,
         content,
     };
     shelf.put(container, object, etag)
@@ -199,21 +222,7 @@ pub(crate) fn apply_call_to_shelf<S: Shelf>(
         (S.model shelf.new).account result }
 {
     match call {
-        SwiftRequest::PutObject {
-            container,
-            name,
-            content_type,
-            meta,
-            body,
-        } => put_object_on_shelf(
-            shelf,
-            container.as_slice(),
-            name,
-            content_type,
-            meta,
-            body,
-            reply,
-        ),
+        SwiftRequest::PutObject(put) => put_object_on_shelf(shelf, put, reply),
         other => apply_other_call_to_shelf(shelf, other, reply),
     }
 }
@@ -239,15 +248,14 @@ fn apply_other_call_to_shelf<S: Shelf>(
             content_type,
             meta,
             segments,
-        } => put_manifest_on_shelf(
-            shelf,
-            container.as_slice(),
-            name,
-            content_type,
-            meta,
-            segments,
-            reply,
-        ),
+        } => {
+            let head = FileHead {
+                name,
+                content_type,
+                meta,
+            };
+            put_manifest_on_shelf(shelf, container.as_slice(), head, segments, reply)
+        }
         other => apply_owned_call_to_shelf(shelf, other, reply),
     }
 }
@@ -298,7 +306,7 @@ fn apply_lent_call_to_shelf<S: Shelf>(
         SwiftRequest::DeleteContainer { container } => {
             delete_container_on_shelf(shelf, container.as_slice(), reply)
         }
-        SwiftRequest::PutObject { .. } => Err(StoreFault::Memory),
+        SwiftRequest::PutObject(_) => Err(StoreFault::Memory),
         SwiftRequest::PutManifest { .. } => Err(StoreFault::Memory),
         SwiftRequest::DeleteObject { container, name } => {
             delete_object_on_shelf(shelf, container.as_slice(), name.as_slice(), reply)

@@ -1,8 +1,10 @@
 //! The reply to each call, found before anything is written.
 ghost use Rattle.std.specs.Prelude.{◌≡◌, ℕ, true, false, List, Option, Some, IfOk};
+ghost use Rattle.std.specs.FinMap.{get};
 ghost use Rattle.std.specs.Option.{option_map};
 ghost use Rattle.swift_calls.specs.Account.{find_object};
 ghost use Rattle.swift_calls.specs.Bodies.{head_of, joined, outer_bytes, is_good_list};
+ghost use Rattle.swift_calls.specs.Step.{is_taken, plain_file, put_object};
 ghost use Rattle.swift_calls.specs.declared.calls.SwiftRequest.TheVariants as asked;
 ghost use Rattle.swift_store.specs.Shelf.{ShelfReads, part_of};
 ghost use Rattle.swift_store.specs.Listed.{segments_at};
@@ -16,7 +18,7 @@ use crate::{Shelf, StoreFault};
 use gate_base::Bytes;
 use slo_manifest::{Segment, joined_etag};
 use std::alloc::Global;
-use swift_calls::{StoredHead, SwiftReply, SwiftRequest};
+use swift_calls::{FilePut, StoredHead, SwiftReply, SwiftRequest};
 
 fn shelf_reply_to_list_containers<S: Shelf>(
     shelf: &mut S,
@@ -108,21 +110,51 @@ fn shelf_reply_to_list_names<S: Shelf>(
     }
 }
 
-/// The body is hashed here, and only here.
-#[tactic(auto, using(crate::proofs::Replying::stored_there, crate::proofs::Replying::stored_missing))]
+#[tactic(auto, using(crate::proofs::Replying::put_taken, crate::proofs::Replying::put_free))]
 fn shelf_reply_to_put_object<S: Shelf>(
     shelf: &mut S,
     alloc: Global,
-    container: &[u8],
-    body: &[u8],
+    put: &FilePut,
 ) -> Result<SwiftReply, StoreFault>
-    ensures reads { ShelfReads (λ account reply. (name content_type : List ℕ) (meta : List (List ℕ))
-        → IsReply (asked.PutObject container.now name content_type meta body.now) account reply)
-        (S.model shelf.old) result (S.model shelf.new) }
-    ensures tags { IfOk result (TagsWith body.now) }
+    ensures reads { ShelfReads (IsReply (asked.PutObject put.now)) (S.model shelf.old) result
+        (S.model shelf.new) }
+    ensures tags { IfOk result (TagsWith put.now.body) }
 {
-    if shelf.container(container)?.is_some() {
-        let etag = etag_of_shelved_bytes(alloc, body)?;
+    if is_taken_on_shelf(shelf, put)? {
+        return Ok(SwiftReply::Exists);
+    }
+    shelf_reply_to_free_put(shelf, alloc, put)
+}
+
+/// Whether a fresh object may not be put, since one is there under its name.
+#[tactic(auto, using(crate::proofs::Replying::taken_fresh, crate::proofs::Replying::taken_other))]
+fn is_taken_on_shelf<S: Shelf>(shelf: &mut S, put: &FilePut) -> Result<bool, StoreFault>
+    ensures reads { ShelfReads (λ account taken. taken ≡ is_taken put.now.fresh
+        (find_object account put.now.container put.now.name)) (S.model shelf.old) result
+        (S.model shelf.new) }
+{
+    if put.fresh {
+        let head = shelf.head(put.container.as_slice(), put.name.as_slice())?;
+        Ok(head.is_some())
+    } else {
+        Ok(false)
+    }
+}
+
+/// The reply where its name isn't taken for it. The body is hashed here, and only here.
+#[tactic(auto, using(crate::proofs::Replying::stored_there, crate::proofs::Replying::stored_missing))]
+fn shelf_reply_to_free_put<S: Shelf>(
+    shelf: &mut S,
+    alloc: Global,
+    put: &FilePut,
+) -> Result<SwiftReply, StoreFault>
+    ensures reads { ShelfReads (λ account reply. reply ≡ (put_object
+        (get account put.now.container) put.now.container put.now.name (plain_file put.now)
+        account).reply) (S.model shelf.old) result (S.model shelf.new) }
+    ensures tags { IfOk result (TagsWith put.now.body) }
+{
+    if shelf.container(put.container.as_slice())?.is_some() {
+        let etag = etag_of_shelved_bytes(alloc, put.body.as_slice())?;
         Ok(SwiftReply::Stored { etag })
     } else {
         Ok(SwiftReply::NotFound)
@@ -427,11 +459,7 @@ fn shelf_reply_to_object_call<S: Shelf>(
     ensures tags { IfOk result (λ reply. TagsBody call.now reply) }
 {
     match call {
-        SwiftRequest::PutObject {
-            container,
-            body,
-            ..
-        } => shelf_reply_to_put_object(shelf, alloc, container.as_slice(), body.as_slice()),
+        SwiftRequest::PutObject(put) => shelf_reply_to_put_object(shelf, alloc, put),
         SwiftRequest::PutManifest {
             container,
             segments,

@@ -2,13 +2,16 @@
 ghost use Rattle.std.specs.Prelude.{◌≡◌, ◌≤◌, IsTrue};
 ghost use Rattle.gate_base.specs.ListTold.{draws_of, moments_of, source_of};
 ghost use Rattle.gate_base.specs.MemLine.{model_of};
+ghost use Rattle.gateway.specs.World.{StaysLent};
 ghost use Rattle.trial_cmd.specs.Served.{TrialDoes, TrialTalks};
 
 use crate::given::{trial_line, trial_moments, trial_service};
 use crate::pieces::{hash_of_pieces, size_of_pieces};
 use account_calls::Known;
 use gate_base::{List, ListClock, ListDraws, MemLine, Memory};
-use gateway::{Ended, Service, law_failed_store_rose, law_found_consistent, serve_connection};
+use gateway::{
+    Ended, Service, World, law_failed_store_rose, law_found_consistent, serve_connection,
+};
 use std::alloc::Global;
 use swift_calls::Swift;
 
@@ -53,15 +56,29 @@ fn serve_trial_line<W: Swift>(
     let mut line = line;
     let mut clock = clock;
     let mut draws = draws;
-    let mut known = Known::Unsure;
-    let ended = serve_connection(
-        alloc, store, &mut known, service, &mut line, &mut clock, &mut draws,
-    );
+    let mut lent = World::over(&mut line, store, &mut clock, &mut draws);
+    serve_trial_lent(alloc, service, &mut lent)
+}
+
+/// Answers the requests of the line over what is lent, as the first that is done over the store.
+fn serve_trial_lent<W: Swift>(
+    alloc: Global,
+    service: &Service,
+    lent: &mut World<'_, MemLine, W, ListClock, ListDraws>,
+) -> Trial
+    requires { IsTrue (model_of lent.old.line.now).is_open }
+    ensures stays { StaysLent lent.old lent.new }
+    ensures talks { TrialTalks service.now (model_of lent.old.line.now)
+        (source_of (moments_of lent.old.clock.now)) (source_of (draws_of lent.old.draws.now))
+        (W.history lent.old.store.now) result (W.history lent.new.store.now) }
+{
+    lent.known = Known::Unsure;
+    let ended = serve_connection(alloc, service, lent);
     law_failed_store_rose();
     law_found_consistent();
     Trial {
         ended,
-        size: size_of_pieces(line.pieces()),
-        hash: hash_of_pieces(line.pieces()),
+        size: size_of_pieces(lent.line.pieces()),
+        hash: hash_of_pieces(lent.line.pieces()),
     }
 }

@@ -7,7 +7,8 @@ use Rattle.gate_base.specs.Maps.{name_cmp}
 use Rattle.gate_base.proofs.lemmas.Maps.{by_name, off_adjust}
 use Rattle.swift_calls.specs.Account.{SwiftObject, SwiftContainer, SwiftAccount, find_object, on_files}
 use Rattle.swift_calls.specs.Step.{delete_object, put_object, swift_step}
-use Rattle.swift_calls.specs.declared.calls.SwiftRequest.TheVariants.{DeleteObject, PutObject}
+use Rattle.swift_calls.specs.Files.{PutObject}
+use Rattle.swift_calls.specs.declared.calls.SwiftRequest.TheVariants.{DeleteObject}
 use Rattle.upload_records.specs.Native.{SameGateway}
 use Rattle.upload_records.specs.Consistent.{IsBeside}
 use Rattle.upload_records.specs.Laws.{file_put}

@@ -4,7 +4,7 @@ use Rattle.std.specs.Prelude.{ℕ, Bool, true, false, List, [], ◌∷◌, codes
 use Rattle.s3_names.specs.Id.{id_digits}
 use Rattle.s3_machine.specs.ETag.{body_etag}
 use Rattle.swift_calls.specs.declared.calls.SwiftRequest.{SwiftRequest}
-use Rattle.swift_calls.specs.declared.calls.SwiftRequest.TheVariants.{PutObject}
+use Rattle.swift_calls.specs.Files.{PutObject}
 use Rattle.swift_calls.specs.declared.calls.SwiftReply.{SwiftReply}
 use Rattle.swift_calls.specs.declared.calls.SwiftReply.TheVariants.{NotFound, Names, Head, Bytes}
 use Rattle.swift_marks.specs.declared.tag.Tag.{Tag}

@@ -1,6 +1,5 @@
 //! The ids of uploads: their texts, and the search of one that is free, under which there is no record and no segment.
 ghost use Rattle.std.specs.Prelude.{◌≡◌, ◌≢◌, ◌+◌, ◌*◌, true, Err};
-ghost use Rattle.s3_names.specs.Bucket.{is_bucket};
 ghost use Rattle.swift_calls.specs.History.{present};
 ghost use Rattle.account_calls.specs.Answers.{records_of, segments_of};
 ghost use Rattle.account_calls.specs.Calls.{always, by_account, Asks, GivenOf};
@@ -13,8 +12,7 @@ ghost use Rattle.upload_calls.specs.Taken.{TellsRecorded, TellsSegmented};
 
 use account_calls::{PlanFault, Settled};
 use gate_base::Bytes;
-use s3_names::{id_digits, read_id_digits};
-use std::alloc::Global;
+use s3_names::{BucketName, id_digits, read_id_digits};
 use swift_calls::{Swift, SwiftReply, SwiftRequest};
 use upload_records::{segments_container, segments_prefix, uploads_container};
 
@@ -38,35 +36,32 @@ pub fn read_upload_id_to_find(text: &[u8]) -> Option<u128>
 /// only where the store's count of faults rose; Memory where memory ran out; Inconsistent never over an observable consistent
 /// account on which the bucket is there.
 fn is_taken<W: Swift>(
-    alloc: Global,
     state: &mut Settled<'_, W>,
-    bucket: &Bytes,
+    bucket: &BucketName,
     id: u128,
 ) -> Result<bool, PlanFault>
-    requires { is_bucket bucket.now ≡ true }
     ensures stays { Stays state.old state.new }
     ensures asks { Asks (always 2) (W.history state.old.store.now) (W.history state.new.store.now)
         (GivenOf (InBucket bucket.now)) (TellsOf (TellsTaken bucket.now id)) result }
 {
-    if is_taken_by_record(alloc, state, bucket, id)? {
+    if is_taken_by_record(state, bucket, id)? {
         return Ok(true);
     }
-    is_taken_by_segment(alloc, state, bucket, id)
+    is_taken_by_segment(state, bucket, id)
 }
 
 /// Whether the record of an id is there, by HEAD of its file.
 fn is_taken_by_record<W: Swift>(
-    alloc: Global,
     state: &mut Settled<'_, W>,
-    bucket: &Bytes,
+    bucket: &BucketName,
     id: u128,
 ) -> Result<bool, PlanFault>
-    requires { is_bucket bucket.now ≡ true }
     ensures stays { Stays state.old state.new }
     ensures asks { Asks (always 1) (W.history state.old.store.now) (W.history state.new.store.now)
         (GivenOf (InBucket bucket.now)) (TellsOf (TellsRecorded bucket.now id)) result }
 {
-    let container = uploads_container(alloc, bucket.as_slice())?;
+    let alloc = state.alloc;
+    let container = uploads_container(alloc, bucket.bytes())?;
     let name = Bytes::from_slice(alloc, &id_digits(id))?;
     let reply = state.call(SwiftRequest::HeadObject { container, name })?;
     is_taken_by_record_reply(&reply)
@@ -86,17 +81,16 @@ fn is_taken_by_record_reply(reply: &SwiftReply) -> Result<bool, PlanFault>
 
 /// Whether a segment stands under an id, by a listing of one.
 fn is_taken_by_segment<W: Swift>(
-    alloc: Global,
     state: &mut Settled<'_, W>,
-    bucket: &Bytes,
+    bucket: &BucketName,
     id: u128,
 ) -> Result<bool, PlanFault>
-    requires { is_bucket bucket.now ≡ true }
     ensures stays { Stays state.old state.new }
     ensures asks { Asks (always 1) (W.history state.old.store.now) (W.history state.new.store.now)
         (GivenOf (InBucket bucket.now)) (TellsOf (TellsSegmented bucket.now id)) result }
 {
-    let container = segments_container(alloc, bucket.as_slice())?;
+    let alloc = state.alloc;
+    let container = segments_container(alloc, bucket.bytes())?;
     let prefix = segments_prefix(alloc, id)?;
     let reply = state.call(SwiftRequest::ListNames {
         container,
@@ -122,12 +116,10 @@ fn is_taken_by_segment_reply(reply: &SwiftReply) -> Result<bool, PlanFault>
 /// of the bucket, and two more, where the store is observable and its account consistent; and the S3 state stays. The faults are
 /// those of [`is_taken`]; Memory also where all ids that are tried are taken.
 pub fn free_id<W: Swift>(
-    alloc: Global,
     state: &mut Settled<'_, W>,
-    bucket: &Bytes,
+    bucket: &BucketName,
     draw: u128,
 ) -> Result<u128, PlanFault>
-    requires { is_bucket bucket.now ≡ true }
     ensures stays { Stays state.old state.new }
     ensures asks { Asks (by_account (2 * (records_of (present (W.history state.old.store.now)) bucket.now
         + segments_of (present (W.history state.old.store.now)) bucket.now + 1)))
@@ -136,7 +128,7 @@ pub fn free_id<W: Swift>(
 {
     'tries: for tries in 0..MOST_TRIES {
         let id = draw.wrapping_add(u128::from(tries));
-        if !is_taken(alloc, state, bucket, id)? {
+        if !is_taken(state, bucket, id)? {
             return Ok(id);
         }
     }

@@ -12,5 +12,5 @@ pub use found::{Found, find_upload};
 pub use ids::{free_id, read_upload_id_to_find};
 pub use listed_ids::record_ids;
 pub use listed_parts::{digits_in, list_parts};
-pub use parts::{part_request, put_part};
+pub use parts::{PartPlace, part_request, put_part};
 pub use records::{drop_record, get_record, put_record};

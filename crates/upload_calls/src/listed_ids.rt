@@ -1,6 +1,5 @@
 //! The ids of the records of a bucket, page by page.
-ghost use Rattle.std.specs.Prelude.{[], ◌≡◌, ◌<◌, ◌+◌, true, IfOk, IfSome};
-ghost use Rattle.s3_names.specs.Bucket.{is_bucket};
+ghost use Rattle.std.specs.Prelude.{[], ◌≡◌, ◌<◌, ◌+◌, IfOk, IfSome};
 ghost use Rattle.swift_calls.specs.History.{budget, present};
 ghost use Rattle.swift_calls.specs.Limits.{IsMarker};
 ghost use Rattle.upload_records.specs.Layout.{uploads_name};
@@ -13,8 +12,7 @@ ghost use Rattle.upload_calls.specs.Records.{InBucket};
 
 use account_calls::{PlanFault, Settled, next_marker, settled_file_page};
 use gate_base::{Bytes, List};
-use s3_names::read_id_digits;
-use std::alloc::Global;
+use s3_names::{BucketName, read_id_digits};
 use swift_calls::{NameItem, Swift};
 use upload_records::uploads_container;
 
@@ -33,13 +31,11 @@ fn add_ids(ids: &mut List<u128>, page: &[NameItem]) -> Result<(), PlanFault>
 
 /// Adds a page of ids. What is told is the marker of the next page, and `None` after the last one.
 fn next_record_ids<W: Swift>(
-    alloc: Global,
     state: &mut Settled<'_, W>,
-    bucket: &Bytes,
+    bucket: &BucketName,
     marker: &Bytes,
     ids: &mut List<u128>,
 ) -> Result<Option<Bytes>, PlanFault>
-    requires name { is_bucket bucket.now ≡ true }
     requires marker { IsMarker marker.now }
     ensures stays { Stays state.old state.new }
     ensures counted { IfOk result (λ _. (W.history state.old.store.now).called < budget
@@ -50,28 +46,28 @@ fn next_record_ids<W: Swift>(
         (TellsOf (TellsNext id_due (uploads_name bucket.now) [] marker.now ids.old ids.new))
         result }
 {
-    let folder = uploads_container(alloc, bucket.as_slice())?;
-    let page = settled_file_page(alloc, state, folder.as_slice(), b"", marker.as_slice())?;
+    let alloc = state.alloc;
+    let folder = uploads_container(alloc, bucket.bytes())?;
+    let page = settled_file_page(state, folder.as_slice(), b"", marker.as_slice())?;
     add_ids(ids, page.as_slice())?;
     Ok(next_marker(page.as_slice())?)
 }
 
 /// The ids of all records of a bucket, page by page.
 pub fn record_ids<W: Swift>(
-    alloc: Global,
     state: &mut Settled<'_, W>,
-    bucket: &Bytes,
+    bucket: &BucketName,
 ) -> Result<List<u128>, PlanFault>
-    requires { is_bucket bucket.now ≡ true }
     ensures stays { Stays state.old state.new }
     ensures asks { Asks (by_account (pages (records_of (present (W.history state.old.store.now)) bucket.now)))
         (W.history state.old.store.now) (W.history state.new.store.now)
         (GivenOf (InBucket bucket.now)) (TellsOf (TellsIds bucket.now)) result }
 {
+    let alloc = state.alloc;
     let mut ids = List::new(alloc);
     let mut behind = Bytes::new(alloc);
     'pages: loop {
-        match next_record_ids(alloc, state, bucket, &behind, &mut ids)? {
+        match next_record_ids(state, bucket, &behind, &mut ids)? {
             Some(next) => behind = next,
             None => return Ok(ids),
         }

@@ -1,7 +1,6 @@
 //! The listing of the parts of an upload.
-ghost use Rattle.std.specs.Prelude.{◌≡◌, ◌≤◌, ◌<◌, ◌+◌, ℕ, true, map, IfOk, IfSome, OnOk};
+ghost use Rattle.std.specs.Prelude.{◌≡◌, ◌<◌, ◌+◌, ℕ, map, IfOk, IfSome, OnOk};
 ghost use Rattle.std.specs.List.{All};
-ghost use Rattle.s3_names.specs.Bucket.{is_bucket};
 ghost use Rattle.s3_names.specs.Id.{id_digits};
 ghost use Rattle.s3_machine.specs.Shown.{IsShownPart};
 ghost use Rattle.s3_machine.specs.Uploads.{cut};
@@ -20,6 +19,7 @@ ghost use Rattle.upload_calls.specs.Records.{HasOnlyParts, TellsParts};
 use account_calls::{PlanFault, Settled, next_marker, settled_file_page};
 use gate_base::{Bytes, List};
 use s3_machine::{GREATEST_PART_NUMBER, PartItem};
+use s3_names::BucketName;
 use std::alloc::Global;
 use swift_calls::{NameItem, Swift};
 use swift_marks::Stamp;
@@ -87,13 +87,11 @@ fn add_parts(
 
 /// A page of the names of a bucket's segments.
 fn segments_page<W: Swift>(
-    alloc: Global,
     state: &mut Settled<'_, W>,
-    bucket: &Bytes,
+    bucket: &BucketName,
     prefix: &Bytes,
     marker: &Bytes,
 ) -> Result<List<NameItem>, PlanFault>
-    requires name { is_bucket bucket.now ≡ true }
     requires prefix { IsMarker prefix.now }
     requires marker { IsMarker marker.now }
     ensures stays { Stays state.old state.new }
@@ -103,9 +101,9 @@ fn segments_page<W: Swift>(
     ensures asks { Asks (always 1) (W.history state.old.store.now) (W.history state.new.store.now)
         Any (TellsOf (TellsFiles (segments_name bucket.now) prefix.now marker.now)) result }
 {
-    let folder = segments_container(alloc, bucket.as_slice())?;
+    let alloc = state.alloc;
+    let folder = segments_container(alloc, bucket.bytes())?;
     settled_file_page(
-        alloc,
         state,
         folder.as_slice(),
         prefix.as_slice(),
@@ -115,14 +113,12 @@ fn segments_page<W: Swift>(
 
 /// Adds a page of parts. What is told is the marker of the next page, and `None` after the last one.
 fn next_parts<W: Swift>(
-    alloc: Global,
     state: &mut Settled<'_, W>,
-    bucket: &Bytes,
+    bucket: &BucketName,
     id: u128,
     marker: &Bytes,
     parts: &mut List<PartItem>,
 ) -> Result<Option<Bytes>, PlanFault>
-    requires name { is_bucket bucket.now ≡ true }
     requires marker { IsMarker marker.now }
     ensures stays { Stays state.old state.new }
     ensures counted { IfOk result (λ _. (W.history state.old.store.now).called < budget
@@ -134,20 +130,19 @@ fn next_parts<W: Swift>(
         (part_due (segments_prefix (id_digits id))) (segments_name bucket.now)
         (segments_prefix (id_digits id)) marker.now parts.old parts.new)) result }
 {
+    let alloc = state.alloc;
     let prefix = segments_prefix(alloc, id)?;
-    next_parts_under_prefix(alloc, state, bucket, &prefix, marker, parts)
+    next_parts_under_prefix(state, bucket, &prefix, marker, parts)
 }
 
 /// The same by what the names of the parts begin with.
 fn next_parts_under_prefix<W: Swift>(
-    alloc: Global,
     state: &mut Settled<'_, W>,
-    bucket: &Bytes,
+    bucket: &BucketName,
     prefix: &Bytes,
     marker: &Bytes,
     parts: &mut List<PartItem>,
 ) -> Result<Option<Bytes>, PlanFault>
-    requires name { is_bucket bucket.now ≡ true }
     requires prefix { IsMarker prefix.now }
     requires marker { IsMarker marker.now }
     ensures stays { Stays state.old state.new }
@@ -161,7 +156,9 @@ fn next_parts_under_prefix<W: Swift>(
         (part_due (segments_prefix (id_digits id))) (segments_name bucket.now)
         (segments_prefix (id_digits id)) marker.now parts.old parts.new)) result }
 {
-    let page = segments_page(alloc, state, bucket, prefix, marker)?;
+    let alloc = state.alloc;
+    bucket.fits();
+    let page = segments_page(state, bucket, prefix, marker)?;
     add_parts(alloc, prefix.as_slice(), parts, page.as_slice())?;
     Ok(next_marker(page.as_slice())?)
 }
@@ -184,14 +181,12 @@ fn first_listed_parts(items: List<PartItem>, max: u32) -> (List<PartItem>, bool)
 /// faults rose; Memory where memory ran out; Inconsistent never over an observable consistent account on which the bucket is
 /// there and no sub-manifest stands under the id, as under that of an open upload none does.
 pub fn list_parts<W: Swift>(
-    alloc: Global,
     state: &mut Settled<'_, W>,
-    bucket: &Bytes,
+    bucket: &BucketName,
     id: u128,
     marker: u32,
     max: u32,
 ) -> Result<(List<PartItem>, bool), PlanFault>
-    requires name { is_bucket bucket.now ≡ true }
     ensures stays { Stays state.old state.new }
     ensures dated { IfOk result (λ told. All IsShownPart told.0) }
     ensures asks { Asks (by_account
@@ -199,13 +194,15 @@ pub fn list_parts<W: Swift>(
         (W.history state.old.store.now) (W.history state.new.store.now)
         (GivenOf (HasOnlyParts bucket.now id)) (TellsOf (TellsParts bucket.now id marker max)) result }
 {
+    let alloc = state.alloc;
+    bucket.fits();
     let mut parts = List::new(alloc);
     if max == 0 || GREATEST_PART_NUMBER <= marker {
         return Ok((parts, false));
     }
     let mut behind = segment_name(alloc, id, marker)?;
     'pages: loop {
-        match next_parts(alloc, state, bucket, id, &behind, &mut parts)? {
+        match next_parts(state, bucket, id, &behind, &mut parts)? {
             Some(next) => behind = next,
             None => return Ok(first_listed_parts(parts, max)),
         }

@@ -1,10 +1,6 @@
 //! The calls on the record of an upload, one function a call.
-ghost use Rattle.std.specs.Prelude.{◌≡◌, ◌≢◌, ◌<◌, ◌≤◌, true, length, Err, IfOk, Some};
-ghost use Rattle.gate_base.specs.Told.{moment_limit};
-ghost use Rattle.s3_names.specs.Bucket.{is_bucket};
+ghost use Rattle.std.specs.Prelude.{◌≡◌, ◌≢◌, ◌≤◌, length, Err, IfOk, Some};
 ghost use Rattle.s3_names.specs.Id.{id_digits};
-ghost use Rattle.s3_names.specs.Key.{is_key};
-ghost use Rattle.s3_machine.specs.Limits.{is_content_type, is_proper_meta};
 ghost use Rattle.swift_calls.specs.History.{present};
 ghost use Rattle.swift_calls.specs.Step.{Fit};
 ghost use Rattle.upload_texts.specs.Records.{read_record};
@@ -20,10 +16,10 @@ ghost use Rattle.upload_calls.specs.Records.{HasOpen, InBucket, MayClear, MayOpe
 
 use account_calls::{PlanFault, Settled, interpret_file_delete, interpret_put_with_etag};
 use gate_base::{Bytes, List, Memory};
-use s3_machine::body_etag;
-use s3_names::{Meta, id_digits};
+use s3_machine::{Described, Label, Proper, UploadStart, body_etag};
+use s3_names::{BucketName, Key, id_digits};
 use std::alloc::Global;
-use swift_calls::{Swift, SwiftReply, SwiftRequest};
+use swift_calls::{FilePut, Swift, SwiftReply, SwiftRequest};
 use upload_records::{
     law_upload_abandoned, law_upload_dropped, law_upload_opened, uploads_container,
 };
@@ -33,17 +29,16 @@ use upload_texts::{Record, RecordFault};
 /// metadata"). At most one call, and the S3 state stays. Failed comes only where the store's count of faults rose; Memory where
 /// memory ran out; Inconsistent never over an observable consistent account on which the bucket is there.
 pub fn get_record<W: Swift>(
-    alloc: Global,
     state: &mut Settled<'_, W>,
-    bucket: &Bytes,
+    bucket: &BucketName,
     id: u128,
 ) -> Result<Option<Record>, PlanFault>
-    requires { is_bucket bucket.now ≡ true }
     ensures stays { Stays state.old state.new }
     ensures asks { Asks (always 1) (W.history state.old.store.now) (W.history state.new.store.now)
         (GivenOf (InBucket bucket.now)) (TellsOf (TellsRecord bucket.now id)) result }
 {
-    let container = uploads_container(alloc, bucket.as_slice())?;
+    let alloc = state.alloc;
+    let container = uploads_container(alloc, bucket.bytes())?;
     let name = Bytes::from_slice(alloc, &id_digits(id))?;
     let reply = state.call(SwiftRequest::GetObject {
         container,
@@ -79,36 +74,31 @@ fn record_in_fetched_file(alloc: Global, text: &[u8]) -> Result<Option<Record>, 
 }
 
 /// Opens an upload under an id under which nothing stands, by PUT of its record (Object Storage API v1, "Create or replace
-/// object"): the one call that commits. At most one call. The moment is in seconds since the beginning of 1970, before the year
-/// 10000. After Ok the S3 state has the upload, without parts, and over every observable store, consistent or not, its record's file
+/// object"): the one call that commits. At most one call. It is started at the moment of the label. After Ok the S3 state has the upload, without parts, and over every observable store, consistent or not, its record's file
 /// stands. After Failed, which comes only where the store's count of faults
 /// rose, and after Memory the state is the old one or that. Inconsistent never comes over an observable consistent account of
 /// which this is so.
 pub fn put_record<W: Swift>(
-    alloc: Global,
     state: &mut Settled<'_, W>,
-    bucket: &Bytes,
+    start: UploadStart,
     id: u128,
-    key: Bytes,
-    content_type: Bytes,
-    meta: Meta,
-    started: u64,
+    label: &Label,
 ) -> Result<(), PlanFault>
-    requires name { is_bucket bucket.now ≡ true }
-    requires key { is_key key ≡ true }
-    requires content_type { is_content_type content_type ≡ true }
-    requires meta { is_proper_meta meta ≡ true }
-    requires started { started < moment_limit }
     ensures stays { Stays state.old state.new }
     ensures changes { Changes (always 1) (W.history state.old.store.now) (W.history state.new.store.now)
-        (GivenOf (MayOpen bucket.now id)) (Becomes (opens_upload bucket.now id key content_type meta started)) result }
+        (GivenOf (MayOpen start.bucket id))
+        (Becomes (opens_upload start.bucket id start.key start.described.content_type
+        start.described.meta label.now.moment)) result }
     ensures stands { Ensures (W.history state.new.store.now)
-        (StandsOpen bucket.now id key content_type meta started) result }
+        (StandsOpen start.bucket id start.key start.described.content_type start.described.meta
+        label.now.moment) result }
 {
+    let alloc = state.alloc;
+    start.bucket.fits();
     law_upload_opened();
-    let text = text_for_put_record(alloc, key, content_type, meta, started)?;
+    let text = text_for_put_record(alloc, start.key, start.described, label)?;
     let etag = body_etag(text.as_slice());
-    let request = request_for_put_record(alloc, bucket, id, text)?;
+    let request = request_for_put_record(alloc, &start.bucket, id, text)?;
     let reply = state.call(request)?;
     interpret_put_with_etag(&reply, &etag)
 }
@@ -116,25 +106,22 @@ pub fn put_record<W: Swift>(
 /// The text of the record of an upload that is open.
 fn text_for_put_record(
     alloc: Global,
-    key: Bytes,
-    content_type: Bytes,
-    meta: Meta,
-    started: u64,
+    key: Key,
+    described: Proper<Described>,
+    label: &Label,
 ) -> Result<Bytes, Memory>
-    requires key { is_key key ≡ true }
-    requires content_type { is_content_type content_type ≡ true }
-    requires meta { is_proper_meta meta ≡ true }
-    requires started { started < moment_limit }
     ensures reads { IfOk result
-        (λ text. read_record text ≡ Some (Open key content_type meta started)) }
+        (λ text. read_record text ≡ Some (Open key described.content_type described.meta
+        label.now.moment)) }
     ensures short { IfOk result (λ text. length text ≤ most_open_text) }
 {
-    let _ordered = meta.pairs();
+    let described = described.into_value();
+    let _ordered = described.meta.pairs();
     let record = Record::Open {
-        key,
-        content_type,
-        meta,
-        started,
+        key: key.into_text(),
+        content_type: described.content_type,
+        meta: described.meta,
+        started: label.moment,
     };
     record.write(alloc)
 }
@@ -142,44 +129,43 @@ fn text_for_put_record(
 /// The PUT of a record of this text.
 fn request_for_put_record(
     alloc: Global,
-    bucket: &Bytes,
+    bucket: &BucketName,
     id: u128,
     text: Bytes,
 ) -> Result<SwiftRequest, Memory>
-    requires name { is_bucket bucket.now ≡ true }
     requires short { length text ≤ most_open_text }
     ensures request { IfOk result (λ request. request ≡ put_record_of bucket.now id text) }
     ensures fits { IfOk result Fit }
 {
-    let container = uploads_container(alloc, bucket.as_slice())?;
+    let container = uploads_container(alloc, bucket.bytes())?;
     let name = Bytes::from_slice(alloc, &id_digits(id))?;
     let content_type = Bytes::from_slice(alloc, b"application/json")?;
-    Ok(SwiftRequest::PutObject {
+    Ok(SwiftRequest::PutObject(FilePut {
         container,
         name,
         content_type,
         meta: List::new(alloc),
         body: text,
-    })
+        fresh: false,
+    }))
 }
 
 /// Drops an open upload, by DELETE of its record (Object Storage API v1, "Delete object"): the call that commits. At most one
 /// call. After Ok the S3 state lacks the upload, and its segments may be deleted. The faults are those of [`put_record`].
 pub fn drop_record<W: Swift>(
-    alloc: Global,
     state: &mut Settled<'_, W>,
-    bucket: &Bytes,
+    bucket: &BucketName,
     id: u128,
 ) -> Result<(), PlanFault>
-    requires { is_bucket bucket.now ≡ true }
     ensures stays { Stays state.old state.new }
     ensures drops { ChangesTo (always 1) (W.history state.old.store.now) (W.history state.new.store.now)
         (GivenOf (HasOpen bucket.now id)) (Becomes (drops_upload bucket.now id))
         (MayClear bucket.now id (present (W.history state.old.store.now))) result }
 {
+    let alloc = state.alloc;
     law_upload_dropped();
     law_upload_abandoned();
-    let container = uploads_container(alloc, bucket.as_slice())?;
+    let container = uploads_container(alloc, bucket.bytes())?;
     let name = Bytes::from_slice(alloc, &id_digits(id))?;
     let reply = state.call(SwiftRequest::DeleteObject { container, name })?;
     interpret_file_delete(&reply)

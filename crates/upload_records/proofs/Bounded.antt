@@ -1,5 +1,5 @@
 -- What is consistent by a smaller bound of bodies is consistent.
-use Rattle.std.proofs.Common.{◌≡◌, ◌≤◌, ◌^◌, ℕ, Bool, true, false, ◌&&◌, cond, List, [], ◌∷◌, length, bytes_eq, nat_le, nat_lt, Option, None, Some, refl, sym, ap, subst, ◌∙◌, arith}
+use Rattle.std.proofs.Common.{◌≡◌, ◌≤◌, ◌^◌, ℕ, Bool, true, false, ◌&&◌, cond, List, [], ◌∷◌, length, bytes_eq, nat_le, nat_lt, Option, None, Some, refl, sym, ap, subst, ◌∙◌, arith, inl, inr}
 use Rattle.std.specs.List.{list_all}
 use Rattle.std.specs.Option.{option_and_then}
 use Rattle.std.specs.FinMap.{get}
@@ -18,10 +18,11 @@ use Rattle.upload_texts.specs.Records.{content_fits_record_text}
 use Rattle.upload_texts.specs.Sealed.{has_sealed_text, is_sealed_place, is_sealed_dated, part_fits_sealed_text, sealed_text, read_sealed, sealed_in as sealed_in_json}
 use Rattle.upload_texts.specs.declared.sealed.Sealed.{Sealed}
 use Rattle.upload_texts.specs.declared.sealed.SealedPart.{SealedPart}
+use Rattle.upload_records.proofs.lemmas.GatewayFiles.{no_word}
 use Rattle.upload_records.specs.Layout.{uploads_name, segments_name, gateway_name, sealed_name}
 use Rattle.upload_records.specs.Native.{record_at, seal_by, seal_of}
-use Rattle.upload_records.specs.Consistent.{ConsistentBucket, IsConsistent, IsObject, in_one_piece, in_parts, IsPart, IsPlainObject, IsSealedFile, IsSegment, is_part, is_sub_manifest, IsThere, bucket_sound, sealed_in}
-use Rattle.upload_records.specs.Bounded.{IsConsistentWithin, ConsistentBucketWithin, IsObjectWithin, IsPartWithin, IsPlainObjectWithin, IsSealedFileWithin, IsSegmentWithin, whole, of_parts, part, sub_manifest, WrittenByLess, WrittenByMost, bucket_sound_within, has_sealed_text_within, is_sealed_list_within, part_fits_within, read_sealed_within, seal_by_within, seal_of_within, sealed_from_within}
+use Rattle.upload_records.specs.Consistent.{ConsistentBucket, IsConsistent, IsObject, in_one_piece, in_parts, IsPart, IsPlainObject, IsGatewayFile, IsSealedFile, IsSegment, is_part, is_sub_manifest, IsThere, bucket_sound, sealed_in}
+use Rattle.upload_records.specs.Bounded.{IsConsistentWithin, ConsistentBucketWithin, IsObjectWithin, IsPartWithin, IsPlainObjectWithin, IsGatewayFileWithin, IsSealedFileWithin, IsSegmentWithin, whole, of_parts, part, sub_manifest, WrittenByLess, WrittenByMost, bucket_sound_within, has_sealed_text_within, is_sealed_list_within, part_fits_within, read_sealed_within, seal_by_within, seal_of_within, sealed_from_within}
 
 -- ---- by a smaller bound
 
@@ -67,6 +68,14 @@ module _ (most : ℕ) (low : most ≤ most_body_bytes) where
 
   file_wider : (name : List ℕ) (file : SwiftObject) → IsSealedFileWithin most name file → IsSealedFile name file
   file_wider name file f = record { text = f.text; is = f.is; named = f.named; own = f.own; reads = reads_wider f.text f.is f.reads }
+
+  gateway_wider : (name : List ℕ) (file : SwiftObject) → IsGatewayFileWithin most name file → IsGatewayFile name file
+  gateway_wider name file (inl f) = inl (file_wider name file f)
+  gateway_wider name file (inr word) = inr word
+
+  sealed_within : (file : SwiftObject) → IsGatewayFileWithin most sealed_name file → IsSealedFileWithin most sealed_name file
+  sealed_within file (inl f) = f
+  sealed_within file (inr word) = absurd (no_word word)
 
   -- the same is sealed
   seal_same : (found : Option SwiftObject) → ((file : SwiftObject) → found ≡ Some file → IsSealedFileWithin most sealed_name file) → seal_by_within most found ≡ seal_by found
@@ -122,7 +131,7 @@ module _ (most : ℕ) (low : most ≤ most_body_bytes) where
 
   seal_is : (tree : SwiftAccount) → IsConsistentWithin most tree → seal_of_within most tree ≡ seal_of tree
   unfolding seal_of
-  seal_is tree within = seal_same (find_object tree gateway_name sealed_name) (λ file is. within.gateway sealed_name file is)
+  seal_is tree within = seal_same (find_object tree gateway_name sealed_name) (λ file is. sealed_within file (within.gateway sealed_name file is))
 
   account_wider : (tree : SwiftAccount) → IsConsistentWithin most tree → IsConsistent tree
   account_wider tree within =
@@ -131,7 +140,7 @@ module _ (most : ℕ) (low : most ≤ most_body_bytes) where
         folders = within.folders;
         buckets = λ bucket is there. bucket_wider (segments_name bucket) (files tree bucket) (files tree (uploads_name bucket)) (files tree (segments_name bucket)) _ _
             (ap (λ s. sealed_in s bucket) same) (within.buckets bucket is there);
-        gateway = λ name file is. file_wider name file (within.gateway name file is);
+        gateway = λ name file is. gateway_wider name file (within.gateway name file is);
         sealed = λ s is. within.sealed s (same ∙ is);
         stored = within.stored;
       }
@@ -197,6 +206,10 @@ bucket_back folder objects records segments sealed other same b = record {
   subs_apart = λ name file sub is opens. sym same ∙ b.subs_apart name file sub is opens;
 }
 
+gateway_back : (name : List ℕ) (file : SwiftObject) → IsGatewayFile name file → IsGatewayFileWithin most_body_bytes name file
+gateway_back name file (inl f) = inl (record { text = f.text; is = f.is; named = f.named; own = f.own; reads = sym (reads_back f.text) ∙ f.reads })
+gateway_back name file (inr word) = inr word
+
 pub written_by_most : WrittenByMost
 written_by_most tree sound =
     let same = account_seal_back tree in
@@ -204,7 +217,7 @@ written_by_most tree sound =
       folders = sound.folders;
       buckets = λ bucket is there. bucket_back (segments_name bucket) (files tree bucket) (files tree (uploads_name bucket)) (files tree (segments_name bucket)) _ _
           (ap (λ s. sealed_in s bucket) same) (sound.buckets bucket is there);
-      gateway = λ name file is. (let f = sound.gateway name file is in record { text = f.text; is = f.is; named = f.named; own = f.own; reads = sym (reads_back f.text) ∙ f.reads });
+      gateway = λ name file is. gateway_back name file (sound.gateway name file is);
       sealed = λ s is. sound.sealed s (same ∙ is);
       stored = sound.stored;
     }

@@ -1,33 +1,37 @@
--- A change of the gateway's own container leaves the buckets; the PUT of the container itself leaves the state, and the PUT of a
--- sealed completion into it is the step of the service.
+-- A change of the gateway's own container leaves the buckets; the PUT of the container itself leaves the state, the PUT of a sealed
+-- completion into it is the step of the service, and that of the writer's word leaves both.
 use Rattle.std.specs.Prelude.{◌≡◌, ℕ, Bool, true, false, cond, List, is_some, Option, None, Some}
 use Rattle.std.specs.Option.{option_map, option_and_then}
 use Rattle.std.specs.Ordering.{eq_by_cmp}
 use Rattle.std.specs.FinMap.{get, insert}
 use Rattle.std.proofs.Common.{refl, sym, ap, subst, ◌∙◌, inl, inr}
 use Rattle.std.proofs.lemmas.Bool.{and_parts}
-use Rattle.std.proofs.lemmas.Option.{same_Some}
+use Rattle.std.proofs.lemmas.Option.{none-some, same_Some}
 use Rattle.gate_base.specs.Maps.{Names, name_cmp}
-use Rattle.gate_base.proofs.lemmas.Maps.{by_name, apart_back, same_key, same_names, at_insert, at_adjust, off_adjust, put_is}
+use Rattle.gate_base.proofs.lemmas.Maps.{by_name, apart_back, same_key, same_names, at_insert, at_adjust, off_adjust, off_insert, put_is}
 use Rattle.s3_names.specs.Bucket.{is_bucket}
 use Rattle.s3_names.specs.Key.{is_key}
 use Rattle.s3_machine.specs.Finish.{finished}
+use Rattle.s3_machine.specs.State.{State}
 use Rattle.swift_calls.specs.declared.account.ReadList.TheVariants.{Nobody}
 use Rattle.swift_calls.specs.declared.account.Content.TheVariants.{Plain}
-use Rattle.swift_calls.specs.declared.calls.SwiftRequest.TheVariants.{PutContainer, PutObject}
+use Rattle.swift_calls.specs.Files.{PutFile}
+use Rattle.swift_calls.specs.declared.calls.SwiftRequest.TheVariants.{PutContainer}
 use Rattle.swift_calls.specs.Account.{SwiftObject, SwiftContainer, SwiftAccount, files, files_of, find_object, on_files, with_head, put_file}
 use Rattle.swift_calls.specs.Bodies.{plain_bytes}
-use Rattle.swift_calls.specs.Step.{put_container}
+use Rattle.swift_calls.specs.Step.{Answer, is_taken, put_container, put_object, put_unless, swift_step}
+use Rattle.swift_calls.proofs.lemmas.Files.{put_unless_by}
 use Rattle.upload_texts.specs.Sealed.{is_sealed_place, read_sealed, has_sealed_text}
 use Rattle.upload_texts.specs.declared.sealed.Sealed.{Sealed}
-use Rattle.upload_records.specs.Layout.{uploads_name, segments_name, gateway_name, sealed_name}
+use Rattle.upload_records.specs.Layout.{uploads_name, segments_name, gateway_name, sealed_name, writer_name}
 use Rattle.upload_records.specs.Native.{bucket_from, bucket_of, plain, seal_by, seal_of, sealed_of, finished_from, laid, IsUnsealed, s3_state}
-use Rattle.upload_records.specs.Consistent.{Head, head_of, heads, IsFolderName, ConsistentContainers, ConsistentBucket, sealed_in, sealed_id, ConsistentSealed, IsSealedFile, IsStored, IsThere, SealedIn, IsConsistent}
-use Rattle.upload_records.specs.Laws.{file_put, MakesGateway, SealsCompletion}
+use Rattle.upload_records.specs.Consistent.{Head, head_of, heads, IsFolderName, ConsistentContainers, ConsistentBucket, sealed_in, sealed_id, ConsistentSealed, IsGatewayFile, IsStored, IsThere, SealedIn, IsConsistent}
+use Rattle.upload_records.specs.Laws.{file_put, KeepsSealed, MakesGateway, SealsCompletion, WordPut}
 use Rattle.upload_records.proofs.Apart.{gateway_apart}
+use Rattle.upload_records.proofs.lemmas.GatewayFiles.{sealed_file}
 use Rattle.upload_records.proofs.lemmas.SealedTexts.{sealed_has}
 use Rattle.upload_records.proofs.lemmas.Sides.{gateway_uploads, gateway_segments}
-use Rattle.upload_records.proofs.Carried.{none_found, bucket_as, containers_same, heads_stay, files_after}
+use Rattle.upload_records.proofs.Carried.{none_found, bucket_as, containers_same, heads_stay, files_after, found_after}
 use Rattle.upload_records.proofs.lemmas.Plain.{get_plain}
 use Rattle.upload_records.proofs.lemmas.Settled.{OffSame, seal_holds, seal_none, s3_state_unsealed}
 use Rattle.upload_records.proofs.lemmas.Objects.{put_leaves}
@@ -72,7 +76,7 @@ module _ (tree tree' : SwiftAccount) (off : OffSame tree tree' gateway_name) whe
   pub sound_gateway : IsConsistent tree → ConsistentContainers (heads tree')
       → ((n : List ℕ) → ConsistentBucket (segments_name n) (files tree n) (files tree (uploads_name n)) (files tree (segments_name n)) (sealed_id tree n)
       → ConsistentBucket (segments_name n) (files tree n) (files tree (uploads_name n)) (files tree (segments_name n)) (sealed_id tree' n))
-      → ((name : List ℕ) (file : SwiftObject) → find_object tree' gateway_name name ≡ Some file → IsSealedFile name file)
+      → ((name : List ℕ) (file : SwiftObject) → find_object tree' gateway_name name ≡ Some file → IsGatewayFile name file)
       → ((s : Sealed) → seal_of tree' ≡ Some s → SealedIn tree' s)
       → ((name : List ℕ) (file : SwiftObject) → find_object tree' gateway_name name ≡ Some file → IsStored name file)
       → IsConsistent tree'
@@ -216,7 +220,7 @@ module _ (tree : SwiftAccount) (text : List ℕ) (s : Sealed) (file : SwiftObjec
       (containers_same (heads tree) (heads (put_file gateway_name sealed_name file tree)) (heads_stay tree gateway_name (λ fs. insert fs sealed_name file)) sound.folders)
       (λ n old. resealed (segments_name n) (files tree n) (files tree (uploads_name n)) (files tree (segments_name n)) (sealed_id (put_file gateway_name sealed_name file tree) n)
       (bucket_as (segments_name n) refl refl refl (sym (none_sealed n)) old))
-      (λ name f found. put_is IsSealedFile (files tree gateway_name) sealed_name file name f (record { text = text; is = s; named = refl; own = own; reads = reads }) (sound.gateway name f) (ap (λ fs. get fs name) (sym gateway_files) ∙ found))
+      (λ name f found. put_is IsGatewayFile (files tree gateway_name) sealed_name file name f (inl (record { text = text; is = s; named = refl; own = own; reads = reads })) (sound.gateway name f) (ap (λ fs. get fs name) (sym gateway_files) ∙ found))
       (λ x found. subst (SealedIn (put_file gateway_name sealed_name file tree)) (same_Some s x (sym seal_put ∙ found)) sealed_new)
       (λ name f found. put_is IsStored (files tree gateway_name) sealed_name file name f stored (sound.stored gateway_name name f) (ap (λ fs. get fs name) (sym gateway_files) ∙ found))
 
@@ -228,13 +232,120 @@ module _ (tree : SwiftAccount) (text : List ℕ) (s : Sealed) (file : SwiftObjec
       ∙ ap (λ fs. finished (finished_from fs s) (plain new)) (segments_stay tree new put_off_gateway s.bucket (sealed_bucket text s reads))
       ∙ ap (finished (finished_from (files tree (segments_name s.bucket)) s)) (plain_stays tree new put_off_gateway ∙ sym (s3_state_unsealed tree unsealed))
 
-pub completion_sealed : (tree : SwiftAccount) (content_type : List ℕ) (meta : List (List ℕ)) (text : List ℕ) (s : Sealed) → read_sealed text ≡ Some s → IsThere tree gateway_name → SealedIn tree s
-    → IsStored sealed_name (file_put content_type meta text) → IsConsistent tree → IsUnsealed tree → SealsCompletion tree (PutObject gateway_name sealed_name content_type meta text) s
-completion_sealed tree content_type meta text s reads there stands stored sound unsealed =
+-- ---- what is put fresh
+
+-- where none is sealed, no file is there under the name
+seal_missing : (tree : SwiftAccount) → IsConsistent tree → IsUnsealed tree → (o : Option SwiftObject) → find_object tree gateway_name sealed_name ≡ o → find_object tree gateway_name sealed_name ≡ None
+unfolding seal_of
+seal_missing tree sound unsealed None e = e
+seal_missing tree sound unsealed (Some file) e =
+    let kept = sealed_file file (sound.gateway sealed_name file e) in
+    let seals : seal_of tree ≡ Some kept.is = ap seal_by e ∙ ap (λ c. option_and_then read_sealed (plain_bytes c)) kept.own ∙ kept.reads in
+    absurd (none-some kept.is (sym (seal_none tree unsealed) ∙ seals))
+
+-- none is in the way of a file whose name isn't there
+never_taken : (fresh : Bool) (put : Answer) (tree : SwiftAccount) → let none : Option SwiftObject = None in (put_unless (is_taken fresh none) put tree).tree ≡ put.tree
+never_taken false put tree = refl
+never_taken true put tree = refl
+
+pub completion_sealed : (tree : SwiftAccount) (content_type : List ℕ) (meta : List (List ℕ)) (text : List ℕ) (fresh : Bool) (s : Sealed) → read_sealed text ≡ Some s → IsThere tree gateway_name → SealedIn tree s
+    → IsStored sealed_name (file_put content_type meta text) → IsConsistent tree → IsUnsealed tree → SealsCompletion tree (PutFile gateway_name sealed_name content_type meta text fresh) s
+completion_sealed tree content_type meta text fresh s reads there stands stored sound unsealed =
     let file : SwiftObject = file_put content_type meta text in
-    let leaves = put_leaves (get tree gateway_name) gateway_name sealed_name file tree refl in
+    let put : Answer = put_object (get tree gateway_name) gateway_name sealed_name file tree in
+    let leaves : (swift_step (PutFile gateway_name sealed_name content_type meta text fresh) tree).tree ≡ put_file gateway_name sealed_name file tree =
+    ap (λ o. (put_unless (is_taken fresh o) put tree).tree) (seal_missing tree sound unsealed (find_object tree gateway_name sealed_name) refl)
+    ∙ never_taken fresh put tree ∙ put_leaves (get tree gateway_name) gateway_name sealed_name file tree refl in
     record {
       sound = subst IsConsistent (sym leaves) (sealed_sound tree text s file refl reads there stands stored sound unsealed);
       state = ap s3_state leaves ∙ sealed_state tree text s file refl reads there stands stored sound unsealed;
       seals = ap seal_of leaves ∙ seal_put tree text s file refl reads there stands stored sound unsealed;
     }
+
+-- ---- the PUT of the writer's word
+
+names_apart : eq_by_cmp name_cmp sealed_name writer_name ≡ false
+unfolding sealed_name writer_name
+names_apart = refl
+
+module _ (tree : SwiftAccount) (file : SwiftObject) (stored : IsStored writer_name file) (sound : IsConsistent tree) where
+  abbrev with_word : SwiftAccount
+  with_word = put_file gateway_name writer_name file tree
+
+  word_off : OffSame tree with_word gateway_name
+  word_off = off_adjust by_name gateway_name (on_files (λ fs. insert fs writer_name file)) tree
+
+  word_at : get with_word gateway_name ≡ option_map (on_files (λ fs. insert fs writer_name file)) (get tree gateway_name)
+  word_at = at_adjust by_name gateway_name (on_files (λ fs. insert fs writer_name file)) tree
+
+  -- what the container holds after it
+  word_found : (name : List ℕ) (f : SwiftObject) → find_object with_word gateway_name name ≡ Some f → get (insert (files tree gateway_name) writer_name file) name ≡ Some f
+  word_found name f found = found_after (λ fs. insert fs writer_name file) (get tree gateway_name) name f (ap (λ o. get (files_of o) name) (sym word_at) ∙ found)
+
+  word_sealed : (o : Option SwiftContainer) → get (files_of (option_map (on_files (λ fs. insert fs writer_name file)) o)) sealed_name ≡ get (files_of o) sealed_name
+  word_sealed None = refl
+  word_sealed (Some folder) = off_insert by_name folder.files writer_name file sealed_name names_apart
+
+  word_seals : seal_of with_word ≡ seal_of tree
+  unfolding seal_of
+  word_seals = ap seal_by (ap (λ o. get (files_of o) sealed_name) word_at ∙ word_sealed (get tree gateway_name))
+
+  -- the bucket of what is sealed has the name of one
+  word_bucket : (s : Sealed) → seal_of tree ≡ Some s → is_bucket s.bucket ≡ true
+  unfolding seal_of
+  word_bucket s e = by (find_object tree gateway_name sealed_name) e
+    where
+      by_bytes : (bytes : Option (List ℕ)) → option_and_then read_sealed bytes ≡ Some s → is_bucket s.bucket ≡ true
+      by_bytes None e = absurd (none-some s e)
+      by_bytes (Some text) e = sealed_bucket text s e
+
+      by : (o : Option SwiftObject) → seal_by o ≡ Some s → is_bucket s.bucket ≡ true
+      by None e = absurd (none-some s e)
+      by (Some f) e = by_bytes (plain_bytes f.content) e
+
+  word_stands : (s : Sealed) → seal_of with_word ≡ Some s → SealedIn with_word s
+  word_stands s found =
+      let was : seal_of tree ≡ Some s = sym word_seals ∙ found in
+      let is = word_bucket s was in
+      let old = sound.sealed s was in
+      record {
+        there = ap is_some (bucket_stays tree with_word word_off s.bucket is) ∙ old.there;
+        stands = subst (λ r. ConsistentSealed r (files with_word (segments_name s.bucket)) s) (sym (records_stay tree with_word word_off s.bucket is))
+            (subst (λ x. ConsistentSealed (files tree (uploads_name s.bucket)) x s) (sym (segments_stay tree with_word word_off s.bucket is)) old.stands);
+      }
+
+  word_sound : IsConsistent with_word
+  word_sound = sound_gateway tree with_word word_off sound
+      (containers_same (heads tree) (heads with_word) (heads_stay tree gateway_name (λ fs. insert fs writer_name file)) sound.folders)
+      (λ n old. bucket_as (segments_name n) refl refl refl (ap (λ s. sealed_in s n) word_seals) old)
+      (λ name f found. put_is IsGatewayFile (files tree gateway_name) writer_name file name f (inr refl) (sound.gateway name f) (word_found name f found))
+      word_stands
+      (λ name f found. put_is IsStored (files tree gateway_name) writer_name file name f stored (sound.stored gateway_name name f) (word_found name f found))
+
+  abbrev laid_on : SwiftAccount → Option Sealed → State
+  laid_on on v = laid (option_map (λ s. finished_from (files on (segments_name s.bucket)) s) v) (plain on)
+
+  word_state : s3_state with_word ≡ s3_state tree
+  unfolding s3_state sealed_of
+  word_state = by (seal_of tree) refl
+    where
+      by : (v : Option Sealed) → seal_of tree ≡ v → laid_on with_word (seal_of with_word) ≡ laid_on tree (seal_of tree)
+      by None e = ap (laid_on with_word) (word_seals ∙ e) ∙ plain_stays tree with_word word_off ∙ sym (ap (laid_on tree) e)
+      by (Some s) e =
+          ap (laid_on with_word) (word_seals ∙ e)
+          ∙ (λ i. laid (Some (finished_from (segments_stay tree with_word word_off s.bucket (word_bucket s e) i) s)) (plain_stays tree with_word word_off i))
+          ∙ sym (ap (laid_on tree) e)
+
+  word_keeps : KeepsSealed tree with_word
+  word_keeps = record { sound = word_sound; same = word_state; sealed = word_seals; there = ap is_some word_at ∙ kept (get tree gateway_name) }
+    where
+      kept : (o : Option SwiftContainer) → is_some (option_map (on_files (λ fs. insert fs writer_name file)) o) ≡ is_some o
+      kept None = refl
+      kept (Some folder) = refl
+
+pub word_put : WordPut
+word_put tree content_type meta text fresh stored sound =
+    let file : SwiftObject = file_put content_type meta text in
+    put_unless_by (λ a. KeepsSealed tree a.tree) (is_taken fresh (find_object tree gateway_name writer_name)) (put_object (get tree gateway_name) gateway_name writer_name file tree) tree
+    (λ free. subst (KeepsSealed tree) (sym (put_leaves (get tree gateway_name) gateway_name writer_name file tree refl)) (word_keeps tree file stored sound))
+    (λ taken. record { sound = sound; same = refl; sealed = refl; there = refl })

@@ -12,7 +12,7 @@ use Rattle.s3_names.specs.Id.{id_digits}
 use Rattle.s3_machine.specs.State.{Upload, Bucket}
 use Rattle.s3_machine.specs.Uploads.{on_upload, with_part}
 use Rattle.swift_calls.specs.Account.{SwiftObject, SwiftContainer, SwiftAccount, files, files_of, put_file}
-use Rattle.swift_calls.specs.declared.calls.SwiftRequest.TheVariants.{PutObject}
+use Rattle.swift_calls.specs.Files.{PutObject}
 use Rattle.upload_texts.specs.declared.record.Record.{Record}
 use Rattle.upload_texts.specs.declared.record.Record.TheVariants.{Open, Done}
 use Rattle.upload_records.specs.Layout.{uploads_name, segments_name, segment_name}

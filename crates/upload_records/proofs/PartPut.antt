@@ -10,7 +10,7 @@ use Rattle.s3_names.specs.Id.{id_digits}
 use Rattle.s3_machine.specs.Uploads.{greatest_part, with_part, on_upload}
 use Rattle.swift_calls.specs.Account.{SwiftObject, SwiftContainer, SwiftAccount, files, files_of, put_file}
 use Rattle.swift_calls.specs.Bodies.{plain_bytes}
-use Rattle.swift_calls.specs.declared.calls.SwiftRequest.TheVariants.{PutObject}
+use Rattle.swift_calls.specs.Files.{PutObject}
 use Rattle.upload_texts.specs.declared.record.Record.{Record}
 use Rattle.upload_texts.specs.declared.record.Record.TheVariants.{Open, Done}
 use Rattle.upload_records.specs.Layout.{uploads_name, segments_name, segment_name, sub_manifest_name}

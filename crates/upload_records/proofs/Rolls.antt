@@ -18,7 +18,8 @@ use Rattle.s3_machine.specs.Step.{put_object}
 use Rattle.s3_machine.specs.Finish.{Finished, finish, finished}
 use Rattle.swift_calls.specs.declared.account.Content.{Content}
 use Rattle.swift_calls.specs.declared.account.Content.TheVariants.{Plain, Segments}
-use Rattle.swift_calls.specs.declared.calls.SwiftRequest.TheVariants.{PutObject, DeleteObject}
+use Rattle.swift_calls.specs.Files.{PutObject}
+use Rattle.swift_calls.specs.declared.calls.SwiftRequest.TheVariants.{DeleteObject}
 use Rattle.swift_calls.specs.Account.{SwiftObject, SwiftContainer, SwiftAccount, files, files_of, find_object, on_files, put_file, remove_file}
 use Rattle.swift_calls.specs.Bodies.{plain_bytes}
 use Rattle.swift_calls.specs.Step.{swift_step}

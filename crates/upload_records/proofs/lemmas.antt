@@ -1,5 +1,6 @@
 pub mod Beside
 pub mod Buckets
+pub mod GatewayFiles
 pub mod Listing
 pub mod Objects
 pub mod Off

@@ -1,7 +1,7 @@
 -- An account that only the gateway writes, where no body has more than so many bytes: what holds of one that was written by a smaller
 -- bound than the greatest. It is `IsConsistent`, word for word, with that bound in the three places that have one: an object that was put in
 -- one piece, a part, and the sizes of the parts of a completion that is sealed. Source: this profile.
-use Rattle.std.specs.Prelude.{◌≡◌, ◌<◌, ◌≤◌, ◌^◌, ℕ, Bool, ◌&&◌, nat_le, nat_lt, List, cond, true, false, bytes_eq, length, is_some, Option, Some, None}
+use Rattle.std.specs.Prelude.{◌≡◌, ◌⊎◌, ◌<◌, ◌≤◌, ◌^◌, ℕ, Bool, ◌&&◌, nat_le, nat_lt, List, cond, true, false, bytes_eq, length, is_some, Option, Some, None}
 use Rattle.std.specs.List.{list_all}
 use Rattle.std.specs.Option.{option_and_then}
 use Rattle.std.specs.FinMap.{get}
@@ -25,7 +25,7 @@ use Rattle.upload_texts.specs.Records.{content_fits_record_text}
 use Rattle.upload_texts.specs.Sealed.{is_sealed_place, is_sealed_dated, sealed_text, sealed_in as sealed_in_json}
 use Rattle.upload_texts.specs.declared.sealed.Sealed.{Sealed}
 use Rattle.upload_texts.specs.declared.sealed.SealedPart.{SealedPart}
-use Rattle.upload_records.specs.Layout.{uploads_name, segments_name, gateway_name, sealed_name, segment_name}
+use Rattle.upload_records.specs.Layout.{uploads_name, segments_name, gateway_name, sealed_name, writer_name, segment_name}
 use Rattle.upload_records.specs.Native.{record_at, seal_of}
 use Rattle.upload_records.specs.Consistent.{ConsistentContainers, IsConsistent, IsCompletedObject, IsSubManifest, IsRecord, IsOpen, HasList, IsStored, IsThere, SealedIn, heads, sealed_in}
 
@@ -64,6 +64,9 @@ pub record IsSealedFileWithin (most : ℕ) (name : List ℕ) (file : SwiftObject
   pub named : name ≡ sealed_name
   pub own : file.content ≡ Plain text
   pub reads : read_sealed_within most text ≡ Some is
+
+abbrev pub IsGatewayFileWithin : ℕ → List ℕ → SwiftObject → Type 0
+IsGatewayFileWithin most name file = IsSealedFileWithin most name file ⊎ (name ≡ writer_name)
 
 -- ---- objects and parts
 
@@ -116,7 +119,7 @@ bucket_sound_within most tree bucket =
 pub record IsConsistentWithin (most : ℕ) (tree : SwiftAccount) : Type 0 where
   pub folders : ConsistentContainers (heads tree)
   pub buckets : (bucket : List ℕ) → is_bucket bucket ≡ true → IsThere tree bucket → bucket_sound_within most tree bucket
-  pub gateway : (name : List ℕ) (file : SwiftObject) → find_object tree gateway_name name ≡ Some file → IsSealedFileWithin most name file
+  pub gateway : (name : List ℕ) (file : SwiftObject) → find_object tree gateway_name name ≡ Some file → IsGatewayFileWithin most name file
   pub sealed : (s : Sealed) → seal_of_within most tree ≡ Some s → SealedIn tree s
   pub stored : (folder name : List ℕ) (file : SwiftObject) → find_object tree folder name ≡ Some file → IsStored name file
 

@@ -27,7 +27,7 @@ use Rattle.upload_texts.specs.declared.record.Record.{Record}
 use Rattle.upload_texts.specs.declared.record.Record.TheVariants.{Open, Done}
 use Rattle.upload_texts.specs.declared.sealed.Sealed.{Sealed}
 use Rattle.upload_texts.specs.declared.sealed.SealedPart.{SealedPart}
-use Rattle.upload_records.specs.Layout.{uploads_name, segments_name, gateway_name, sealed_name, segment_name, sub_manifest_name}
+use Rattle.upload_records.specs.Layout.{uploads_name, segments_name, gateway_name, sealed_name, writer_name, segment_name, sub_manifest_name}
 use Rattle.upload_records.specs.Native.{record_at, seal_of, listed_of, run, sub_manifests, listing_by, sealed_sub_manifests, sub_file_at}
 
 -- ---- containers
@@ -268,13 +268,17 @@ pub record ConsistentSealed (records segments : Names SwiftObject) (s : Sealed) 
   pub agrees : Agrees s (record_at records (id_digits s.id))
   pub subs : (number : ℕ) (file : SwiftObject) → get segments (sub_manifest_name (id_digits s.id) number) ≡ Some file → IsSealedSub s number file
 
--- the one file of the gateway's own container: a completion that is sealed. That it lists a part is said by its text
+-- a file of the gateway's own container that is a completion which is sealed. That it lists a part is said by its text
 pub record IsSealedFile (name : List ℕ) (file : SwiftObject) : Type 0 where
   pub text : List ℕ
   pub is : Sealed
   pub named : name ≡ sealed_name
   pub own : file.content ≡ Plain text
   pub reads : read_sealed text ≡ Some is
+
+-- a file of that container: what is sealed, or the word of the program that writes, of which nothing is asked
+abbrev pub IsGatewayFile : List ℕ → SwiftObject → Type 0
+IsGatewayFile name file = IsSealedFile name file ⊎ (name ≡ writer_name)
 
 -- ---- the account
 
@@ -318,6 +322,6 @@ pub record SealedIn (tree : SwiftAccount) (s : Sealed) : Type 0 where
 pub record IsConsistent (tree : SwiftAccount) : Type 0 where
   pub folders : ConsistentContainers (heads tree)
   pub buckets : (bucket : List ℕ) → is_bucket bucket ≡ true → IsThere tree bucket → bucket_sound tree bucket
-  pub gateway : (name : List ℕ) (file : SwiftObject) → find_object tree gateway_name name ≡ Some file → IsSealedFile name file
+  pub gateway : (name : List ℕ) (file : SwiftObject) → find_object tree gateway_name name ≡ Some file → IsGatewayFile name file
   pub sealed : (s : Sealed) → seal_of tree ≡ Some s → SealedIn tree s
   pub stored : (folder name : List ℕ) (file : SwiftObject) → find_object tree folder name ≡ Some file → IsStored name file

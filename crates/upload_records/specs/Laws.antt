@@ -1,5 +1,5 @@
 -- What the laws of this crate say.
-use Rattle.std.specs.Prelude.{◌≡◌, ◌<◌, ◌≤◌, ◌+◌, ◌^◌, ℕ, List, [], ◌∷◌, map, length, sum_by, true, is_some, Option, None, Some}
+use Rattle.std.specs.Prelude.{◌≡◌, ◌<◌, ◌≤◌, ◌+◌, ◌^◌, ℕ, Bool, List, [], ◌∷◌, map, length, sum_by, true, is_some, Option, None, Some}
 use Rattle.std.specs.List.{All}
 use Rattle.std.specs.Option.{option_map}
 use Rattle.std.specs.FinMap.{empty, get, insert, remove}
@@ -28,13 +28,14 @@ use Rattle.swift_calls.specs.Step as store
 use Rattle.swift_calls.specs.declared.account.Content.TheVariants.{Plain, Segments}
 use Rattle.swift_calls.specs.declared.account.ReadList.TheVariants.{Nobody}
 use Rattle.swift_calls.specs.declared.calls.SwiftRequest.{SwiftRequest}
-use Rattle.swift_calls.specs.declared.calls.SwiftRequest.TheVariants.{PutContainer, PostContainer, DeleteContainer, PutObject, DeleteObject}
+use Rattle.swift_calls.specs.Files.{PutFile, PutObject}
+use Rattle.swift_calls.specs.declared.calls.SwiftRequest.TheVariants.{PutContainer, PostContainer, DeleteContainer, DeleteObject}
 use Rattle.upload_texts.specs.Records.{read_record}
 use Rattle.upload_texts.specs.Sealed.{read_sealed}
 use Rattle.upload_texts.specs.declared.sealed.Sealed.{Sealed}
 use Rattle.upload_texts.specs.declared.sealed.SealedPart.{SealedPart}
 use Rattle.upload_texts.specs.declared.record.Record.TheVariants.{Open}
-use Rattle.upload_records.specs.Layout.{uploads_name, segments_name, gateway_name, sealed_name, segment_name, sub_manifest_name, readers_of}
+use Rattle.upload_records.specs.Layout.{uploads_name, segments_name, gateway_name, sealed_name, writer_name, segment_name, sub_manifest_name, readers_of}
 use Rattle.upload_records.specs.Native.{within, sealed_bytes, listed_of, filled_parts, part_segments, sealed_segments, sealed_sub_manifests, sub_file_at, object_of, object_at, record_at, seal_of, sealed_object, sealed_record, sealed_tag, completed_file, finished_from, SameGateway, IsUnsealed, s3_state}
 use Rattle.upload_records.specs.Consistent.{IsBeside, HasBareSides, IsConsistent, IsPlainObject, IsObject, IsPart, IsOpen, IsListOf, HasList, AreParts, HasSubManifests, IsSegmentList, IsSubManifest, IsSegment, AreSealedParts, IsStored, IsThere, SealedIn}
 
@@ -323,11 +324,24 @@ pub record SealsCompletion (tree : SwiftAccount) (request : SwiftRequest) (s : S
   pub state : s3_state (swift_step request tree).tree ≡ finished (finished_from (files tree (segments_name s.bucket)) s) (s3_state tree)
   pub seals : seal_of (swift_step request tree).tree ≡ Some s
 
--- the PUT of a text that reads as a completion which stands beside its bucket, where none is sealed and the container is there
+-- the PUT, fresh or not, of a text that reads as a completion which stands beside its bucket, where none is sealed and the container is
+-- there
 abbrev pub CompletionSealed : Type 0
-CompletionSealed = (tree : SwiftAccount) (content_type : List ℕ) (meta : List (List ℕ)) (text : List ℕ) (s : Sealed) → read_sealed text ≡ Some s
+CompletionSealed = (tree : SwiftAccount) (content_type : List ℕ) (meta : List (List ℕ)) (text : List ℕ) (fresh : Bool) (s : Sealed) → read_sealed text ≡ Some s
     → IsThere tree gateway_name → SealedIn tree s → IsStored sealed_name (file_put content_type meta text) → IsConsistent tree → IsUnsealed tree
-    → SealsCompletion tree (PutObject gateway_name sealed_name content_type meta text) s
+    → SealsCompletion tree (PutFile gateway_name sealed_name content_type meta text fresh) s
+
+-- an account after which nothing has changed of the state, nor of what is sealed, whatever else the gateway's own container has
+pub record KeepsSealed (tree new : SwiftAccount) : Type 0 where
+  pub sound : IsConsistent new
+  pub same : s3_state new ≡ s3_state tree
+  pub sealed : seal_of new ≡ seal_of tree
+  pub there : is_some (get new gateway_name) ≡ is_some (get tree gateway_name)
+
+-- the PUT of the word of the program that writes, fresh or not, also where the container is missing
+abbrev pub WordPut : Type 0
+WordPut = (tree : SwiftAccount) (content_type : List ℕ) (meta : List (List ℕ)) (text : List ℕ) (fresh : Bool) → IsStored writer_name (file_put content_type meta text)
+    → IsConsistent tree → KeepsSealed tree (swift_step (PutFile gateway_name writer_name content_type meta text fresh) tree).tree
 
 -- ---- rolling a sealed completion forward
 

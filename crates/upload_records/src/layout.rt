@@ -1,7 +1,7 @@
 ghost use Rattle.std.specs.Prelude.{◌≡◌, ◌≤◌, ◌+◌, IfOk};
 ghost use Rattle.s3_names.specs.Id.{id_digits};
 ghost use Rattle.s3_machine.specs.Uploads.{greatest_part};
-ghost use Rattle.upload_records.specs.Layout.{acl_of, five_digits, gateway_name, readers_of, sealed_name, segment_name, segments_name, segments_prefix, sub_manifest_name, uploads_name};
+ghost use Rattle.upload_records.specs.Layout.{acl_of, five_digits, gateway_name, readers_of, sealed_name, segment_name, segments_name, segments_prefix, sub_manifest_name, uploads_name, writer_name};
 
 use gate_base::{Bytes, Memory};
 use s3_names::{Acl, id_digits};
@@ -62,6 +62,14 @@ pub fn sealed_name(alloc: Global) -> Result<Bytes, Memory>
     ensures { IfOk result (λ name. name ≡ sealed_name) }
 {
     Bytes::from_slice(alloc, b"sealed")
+}
+
+/// The name in it of the word of the program that writes (this profile).
+#[tactic(auto, unfolding(crate::specs::Layout::writer_name))]
+pub fn writer_name(alloc: Global) -> Result<Bytes, Memory>
+    ensures { IfOk result (λ name. name ≡ writer_name) }
+{
+    Bytes::from_slice(alloc, b"writer")
 }
 
 /// What the names of all segments of an upload begin with (this profile).

@@ -1,6 +1,6 @@
 //! Laws on uploads, each the contract of a function that does nothing: on their records and segments, on the containers beside a
 //! bucket, on objects that list segments, and on a completion that is sealed in the gateway's own container.
-ghost use Rattle.upload_records.specs.Laws.{CompletedStands, CompletionSealed, FilePut, GatewayMade, ListingFound, ListingStands, ObjectListed, ObjectProper, ObjectRolled, OrphanGone, OrphanListed, OrphanPut, PartPut, RecordRolled, SealGone, SideFileGone, SideMade, SubRolled, UnusedIsAbandoned, UploadAbandoned, UploadDropped, UploadOpened};
+ghost use Rattle.upload_records.specs.Laws.{CompletedStands, CompletionSealed, FilePut, GatewayMade, ListingFound, ListingStands, ObjectListed, ObjectProper, ObjectRolled, OrphanGone, OrphanListed, OrphanPut, PartPut, RecordRolled, SealGone, SideFileGone, SideMade, SubRolled, UnusedIsAbandoned, UploadAbandoned, UploadDropped, UploadOpened, WordPut};
 
 /// Where no completion is sealed, the PUT of a part's file under an upload that is open puts the part in place of the one
 /// of its number; it leaves the account consistent, and the gateway's own container as it was.
@@ -90,8 +90,8 @@ pub fn law_gateway_made()
     ensures { GatewayMade }
 {}
 
-/// Where no completion is sealed, the PUT of one into the gateway's own container finishes it in the state, though its object
-/// isn't put yet; it leaves the account consistent.
+/// Where no completion is sealed, the PUT of one into the gateway's own container, fresh or not, finishes it in the state, though its
+/// object isn't put yet; it leaves the account consistent.
 pub fn law_completion_sealed()
     ensures { CompletionSealed }
 {}
@@ -110,6 +110,12 @@ pub fn law_record_rolled()
 /// consistent; none is sealed after it.
 pub fn law_seal_gone()
     ensures { SealGone }
+{}
+
+/// The PUT of the word of the program that writes into the gateway's own container leaves the account consistent, the state and what
+/// is sealed.
+pub fn law_word_put()
+    ensures { WordPut }
 {}
 
 /// The parts that a sealed completion lists, but the empty ones, make a list of segments of its id, whose bytes are those of

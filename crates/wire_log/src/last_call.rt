@@ -28,12 +28,8 @@ pub(crate) fn path_of_logged_call(alloc: Global, request: &SwiftRequest) -> Resu
             alloc,
             container.as_slice(),
         ),
-        SwiftRequest::PutObject {
-            container,
-            name,
-            ..
-        }
-        | SwiftRequest::PutManifest {
+        SwiftRequest::PutObject(put) => path_of_logged_object(alloc, &put.container, &put.name),
+        SwiftRequest::PutManifest {
             container,
             name,
             ..

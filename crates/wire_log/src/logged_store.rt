@@ -141,4 +141,10 @@ impl<W: Swift + Explains, K: Sink, R: Clock> Swift for LoggedStore<W, K, R> {
         self.note_answer(request, &result);
         result
     }
+
+    fn call_newest(&mut self, request: &SwiftRequest) -> Result<SwiftReply, SwiftFault> {
+        let result = self.store.call_newest(request);
+        self.note_answer(request, &result);
+        result
+    }
 }

@@ -7,7 +7,9 @@ use Rattle.gate_base.specs.Causes.{Rose}
 use Rattle.s3_machine.specs.declared.operation.Label.{Label}
 use Rattle.s3_machine.specs.declared.operation.Settings.{Settings}
 use Rattle.s3_machine.specs.declared.operation.Op.{Op}
-use Rattle.s3_machine.specs.declared.operation.Op.TheVariants as op
+use Rattle.s3_machine.specs.declared.operation.Op.TheVariants.{OnObjects}
+use Rattle.s3_machine.specs.declared.operation.ObjectsOp.{ObjectsOp}
+use Rattle.s3_machine.specs.declared.operation.ObjectsOp.TheVariants as op
 use Rattle.s3_machine.specs.declared.operation.Reply.{Reply}
 use Rattle.s3_machine.specs.State.{State}
 use Rattle.s3_machine.specs.Step.{S3Step}
@@ -21,7 +23,7 @@ use Rattle.account_calls.specs.declared.state.Known.TheVariants.{Settled, Unsure
 use Rattle.account_calls.specs.Fault.{CausesFault}
 use Rattle.account_calls.specs.Stutters.{Stutters, OldBefore, LastFailed}
 use Rattle.account_calls.specs.Calls.{Bound, always, by_account, amount, IsWithin, Met, Grows, GivenOf, Given, Keeps, Tells, Asks, Commits, CommitsUntold, Writes, Changes, Any}
-use Rattle.account_calls.specs.Answers.{steps_of, is_old_if_failed, is_old_if_out_of_memory, OldIf, machine, unavailable, memory, ends_by_commit, beside_of, nothing_beside, SaysBeside, is_upload}
+use Rattle.account_calls.specs.Answers.{steps_of, is_old_if_failed, is_old_if_out_of_memory, OldIf, machine, unavailable, memory, ends_by_commit, beside_of, nothing_beside, SaysBeside}
 use Rattle.account_calls.proofs.lemmas.Agree.{last_within, quiet_agree, passes_still, passes_at_once, passes_once, answers_after}
 use Rattle.account_calls.proofs.lemmas.Causes.{due_cause}
 use Rattle.account_calls.proofs.lemmas.Faults.{err_is}
@@ -362,27 +364,18 @@ answered_by {most = most} {a = a} {b = b} {op = op} {label = label} {end = end} 
     within_same (always n) p q from within = within
     within_same (by_account n) p q from within = λ met. within (from met)
 
--- of an operation that isn't one on uploads nothing is asked of the account beside the state
-pub none_beside : (op : Op) → is_upload op ≡ false → beside_of op ≡ nothing_beside
-none_beside op.ListBuckets other = refl
-none_beside (op.CreateBucket bucket acl) other = refl
-none_beside (op.DeleteBucket bucket) other = refl
-none_beside (op.HeadBucket bucket) other = refl
-none_beside (op.GetLocation bucket) other = refl
-none_beside (op.GetBucketAcl bucket) other = refl
-none_beside (op.PutBucketAcl bucket acl) other = refl
-none_beside (op.ListObjects bucket asked) other = refl
-none_beside (op.PutObject bucket key acl content_type meta body) other = refl
-none_beside (op.GetObject bucket key range conditions) other = refl
-none_beside (op.HeadObject bucket key range conditions) other = refl
-none_beside (op.DeleteObject bucket key) other = refl
-none_beside (op.GetObjectAcl bucket key) other = refl
-none_beside (op.ListUploads bucket prefix key_marker id_marker max url) other = cc
-none_beside (op.CreateUpload bucket key acl content_type meta) other = cc
-none_beside (op.UploadPart bucket key id number body) other = cc
-none_beside (op.ListParts bucket key id marker max) other = cc
-none_beside (op.CompleteUpload bucket key id list) other = cc
-none_beside (op.AbortUpload bucket key id) other = cc
-none_beside (op.DeleteObjects bucket keys quiet) other = refl
-none_beside (op.CopyObject bucket key acl from_bucket from_key replaced conditions) other = refl
-none_beside (op.CopyPart bucket key id number from_bucket from_key range conditions) other = refl
+-- of an operation on buckets and objects nothing is asked of the account beside the state
+pub none_beside : (op : ObjectsOp) → beside_of (OnObjects op) ≡ nothing_beside
+none_beside op.ListBuckets = refl
+none_beside (op.CreateBucket made) = refl
+none_beside (op.DeleteBucket bucket) = refl
+none_beside (op.HeadBucket bucket) = refl
+none_beside (op.GetLocation bucket) = refl
+none_beside (op.GetBucketAcl bucket) = refl
+none_beside (op.PutBucketAcl set) = refl
+none_beside (op.ListObjects list) = refl
+none_beside (op.PutObject put) = refl
+none_beside (op.HeadObject read) = refl
+none_beside (op.DeleteObject name) = refl
+none_beside (op.DeleteObjects many) = refl
+none_beside (op.GetObjectAcl name) = refl

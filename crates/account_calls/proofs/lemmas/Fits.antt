@@ -15,10 +15,10 @@ use Rattle.s3_names.specs.Key.{is_key}
 use Rattle.s3_machine.specs.ETag.{body_etag}
 use Rattle.gate_base.specs.Fields.{is_printable}
 use Rattle.s3_machine.specs.Limits as limits
-use Rattle.s3_machine.specs.Step.{IsProperContent}
+use Rattle.s3_machine.specs.Proper.{IsProperContent}
 use Rattle.swift_calls.specs.Limits as store
 use Rattle.swift_calls.specs.Step.{Fit}
-use Rattle.swift_calls.specs.declared.calls.SwiftRequest.TheVariants.{PutObject}
+use Rattle.swift_calls.specs.Files.{PutObject}
 use Rattle.swift_marks.specs.Limits.{is_kept_metadata, is_printable_entry, counted_name, counted_size}
 use Rattle.swift_marks.specs.Tag.{is_content_type, is_etag, has_text, tag_text}
 use Rattle.swift_marks.specs.Pack.{is_short, has_pack, pack_of}

@@ -1,4 +1,7 @@
 -- The file of a PUT that was answered stands, and its ETag is the one that a store has of it.
+use Rattle.s3_machine.specs.declared.operation.Reply.TheVariants.{OfObjects, OfUploads}
+use Rattle.s3_machine.specs.declared.operation.ObjectsReply.TheVariants as objects_reply
+use Rattle.s3_machine.specs.declared.operation.UploadsReply.TheVariants as uploads_reply
 use Rattle.std.specs.Prelude.{◌≡◌, ℕ, Bool, true, false, cond, IsTrue, List, [], ◌∷◌, Option, None, Some, Result, Ok, Err}
 use Rattle.std.specs.FinMap.{get, insert}
 use Rattle.std.specs.Option.{option_map}
@@ -15,10 +18,11 @@ use Rattle.slo_manifest.specs.declared.Segment.{Segment}
 use Rattle.swift_calls.specs.Account.{SwiftObject, SwiftContainer, SwiftAccount, files_of, find_object, on_files}
 use Rattle.swift_calls.specs.Bodies.{etag_of, etag_text, is_good_list}
 use Rattle.swift_calls.specs.History.{History, Calls, present}
-use Rattle.swift_calls.specs.Step.{put_listed, put_manifest, put_object, swift_step}
+use Rattle.swift_calls.specs.Step.{is_taken, plain_file, put_listed, put_manifest, put_object, put_unless, swift_step}
 use Rattle.swift_calls.specs.declared.account.Content.TheVariants.{Plain, Segments}
+use Rattle.swift_calls.specs.declared.calls.FilePut.{FilePut}
 use Rattle.swift_calls.specs.declared.calls.SwiftReply.{SwiftReply}
-use Rattle.swift_calls.specs.declared.calls.SwiftReply.TheVariants.{Made, There, Gone, Stored, NotFound, NotEmpty, BadManifest, Unsatisfiable, Containers, Readers, Names, Head, Bytes, Manifest}
+use Rattle.swift_calls.specs.declared.calls.SwiftReply.TheVariants.{Made, There, Gone, Stored, NotFound, Exists, NotEmpty, BadManifest, Unsatisfiable, Containers, Readers, Names, Head, Bytes, Manifest}
 use Rattle.swift_calls.specs.declared.calls.SwiftRequest.{SwiftRequest}
 use Rattle.swift_calls.specs.declared.calls.SwiftRequest.TheVariants.{ListContainers, HeadContainer, PutContainer, PostContainer, DeleteContainer, ListNames, PutObject, PutManifest, HeadObject, GetObject, GetManifest, DeleteObject}
 use Rattle.upload_records.specs.Native.{content_by}
@@ -70,6 +74,13 @@ module _ (tree : SwiftAccount) (bucket key : List ℕ) where
   manifest_here content_type meta segments (Some folder) etag is says =
       listed_here (is_good_list (find_object tree) segments) (record { content_type = content_type; meta = meta; content = Segments segments }) folder etag is says
 
+-- a fresh file whose name is taken isn't stored
+free_here : (taken : Bool) (put : FilePut) (tree : SwiftAccount) (etag : List ℕ)
+    → (put_unless taken (put_object (get tree put.container) put.container put.name (plain_file put) tree) tree).reply ≡ Stored etag
+    → find_object (put_unless taken (put_object (get tree put.container) put.container put.name (plain_file put) tree) tree).tree put.container put.name ≡ Some (plain_file put)
+free_here true put tree etag says = cc
+free_here false put tree etag says = put_here tree put.container put.name (plain_file put) (get tree put.container) etag refl says
+
 -- over every account a request that was answered so put its file
 stands_in : (request : SwiftRequest) (tree : SwiftAccount) (etag : List ℕ) → (swift_step request tree).reply ≡ Stored etag → StandsIn (swift_step request tree).tree request
 stands_in (ListContainers marker limit) tree etag says = tt
@@ -78,8 +89,7 @@ stands_in (PutContainer container readers created) tree etag says = tt
 stands_in (PostContainer container readers) tree etag says = tt
 stands_in (DeleteContainer container) tree etag says = tt
 stands_in (ListNames container prefix marker limit) tree etag says = tt
-stands_in (PutObject container name content_type meta body) tree etag says =
-    put_here tree container name (record { content_type = content_type; meta = meta; content = Plain body }) (get tree container) etag refl says
+stands_in (PutObject put) tree etag says = free_here (is_taken put.fresh (find_object tree put.container put.name)) put tree etag says
 stands_in (PutManifest container name content_type meta segments) tree etag says = manifest_here tree container name content_type meta segments (get tree container) etag refl says
 stands_in (HeadObject container name) tree etag says = tt
 stands_in (GetObject container name range) tree etag says = tt
@@ -92,6 +102,7 @@ stored_if etag There e = cc
 stored_if etag Gone e = cc
 stored_if etag (Stored stored) e = (stored, refl)
 stored_if etag NotFound e = cc
+stored_if etag Exists e = cc
 stored_if etag NotEmpty e = cc
 stored_if etag BadManifest e = cc
 stored_if etag Unsatisfiable e = cc
@@ -126,19 +137,19 @@ module _ {P Q : Type 0} (gives : P → Q) where
   if_done replies.Done has = gives has
   if_done replies.Gone has = gives has
   if_done (replies.NotModified head) has = gives has
-  if_done (replies.Buckets items) has = gives has
-  if_done (replies.Made bucket) has = gives has
-  if_done (replies.Location region) has = gives has
-  if_done (replies.AclOf acl) has = gives has
-  if_done (replies.Objects bucket asked items truncated) has = gives has
-  if_done (replies.Uploads bucket prefix key_marker id_marker max url items truncated) has = gives has
+  if_done (OfObjects (objects_reply.Buckets items)) has = gives has
+  if_done (OfObjects (objects_reply.Made bucket)) has = gives has
+  if_done (OfObjects (objects_reply.Location region)) has = gives has
+  if_done (OfObjects (objects_reply.AclOf acl)) has = gives has
+  if_done (OfObjects (objects_reply.Objects page)) has = gives has
+  if_done (OfUploads (uploads_reply.Uploads page)) has = gives has
   if_done (replies.Stored etag) has = gives has
-  if_done (replies.Object head from length partial body) has = gives has
-  if_done (replies.Started bucket key id) has = gives has
-  if_done (replies.Parts bucket key id marker max items truncated) has = gives has
-  if_done (replies.Completed bucket key etag) has = gives has
-  if_done (replies.Deleted keys quiet) has = gives has
-  if_done (replies.Copied part etag modified) has = gives has
+  if_done (replies.Object object) has = gives has
+  if_done (OfUploads (uploads_reply.Started started)) has = gives has
+  if_done (OfUploads (uploads_reply.Parts page)) has = gives has
+  if_done (OfUploads (uploads_reply.Completed completed)) has = gives has
+  if_done (OfObjects (objects_reply.Deleted deleted)) has = gives has
+  if_done (replies.Copied copied) has = gives has
 
 -- what holds holds where the operation was done
 pub done_so : {P : Type 0} (reply : Reply) → P → IfDone reply P
@@ -150,19 +161,19 @@ done_so {P = P} reply has = if_done {P = Unit {0}} (λ any. has) reply (any_done
     any_done replies.Done = tt
     any_done replies.Gone = tt
     any_done (replies.NotModified head) = tt
-    any_done (replies.Buckets items) = tt
-    any_done (replies.Made bucket) = tt
-    any_done (replies.Location region) = tt
-    any_done (replies.AclOf acl) = tt
-    any_done (replies.Objects bucket asked items truncated) = tt
-    any_done (replies.Uploads bucket prefix key_marker id_marker max url items truncated) = tt
+    any_done (OfObjects (objects_reply.Buckets items)) = tt
+    any_done (OfObjects (objects_reply.Made bucket)) = tt
+    any_done (OfObjects (objects_reply.Location region)) = tt
+    any_done (OfObjects (objects_reply.AclOf acl)) = tt
+    any_done (OfObjects (objects_reply.Objects page)) = tt
+    any_done (OfUploads (uploads_reply.Uploads page)) = tt
     any_done (replies.Stored etag) = tt
-    any_done (replies.Object head from length partial body) = tt
-    any_done (replies.Started bucket key id) = tt
-    any_done (replies.Parts bucket key id marker max items truncated) = tt
-    any_done (replies.Completed bucket key etag) = tt
-    any_done (replies.Deleted keys quiet) = tt
-    any_done (replies.Copied part etag modified) = tt
+    any_done (replies.Object object) = tt
+    any_done (OfUploads (uploads_reply.Started started)) = tt
+    any_done (OfUploads (uploads_reply.Parts page)) = tt
+    any_done (OfUploads (uploads_reply.Completed completed)) = tt
+    any_done (OfObjects (objects_reply.Deleted deleted)) = tt
+    any_done (replies.Copied copied) = tt
 
 -- less is ensured
 pub ensures_less : {h : History} {P Q : SwiftAccount → Type 0} → ((tree : SwiftAccount) → P tree → Q tree) → (end : Result Reply PlanFault) → EnsuresIfDone h P end → EnsuresIfDone h Q end

@@ -1,4 +1,7 @@
 -- A plan stops at the call that shows why it is refused.
+use Rattle.s3_machine.specs.declared.operation.Reply.TheVariants.{OfObjects, OfUploads}
+use Rattle.s3_machine.specs.declared.operation.ObjectsReply.TheVariants as objects_reply
+use Rattle.s3_machine.specs.declared.operation.UploadsReply.TheVariants as uploads_reply
 use Rattle.std.specs.Prelude.{◌≡◌, ◌≤◌, ℕ, ◌+◌, false, Option, None, Some, IfSome, IfOk, Result, Ok, Err}
 use Rattle.std.proofs.Common.{refl, sym, subst, arith}
 use Rattle.s3_machine.specs.declared.code.Code.{Code}
@@ -27,19 +30,19 @@ no_refusal s replies.Memory is = refl
 no_refusal s replies.Done is = refl
 no_refusal s replies.Gone is = refl
 no_refusal s (replies.NotModified head) is = cc
-no_refusal s (replies.Buckets items) is = refl
-no_refusal s (replies.Made bucket) is = refl
-no_refusal s (replies.Location region) is = refl
-no_refusal s (replies.AclOf acl) is = refl
-no_refusal s (replies.Objects bucket asked items truncated) is = refl
-no_refusal s (replies.Uploads bucket prefix key_marker id_marker max url items truncated) is = refl
+no_refusal s (OfObjects (objects_reply.Buckets items)) is = refl
+no_refusal s (OfObjects (objects_reply.Made bucket)) is = refl
+no_refusal s (OfObjects (objects_reply.Location region)) is = refl
+no_refusal s (OfObjects (objects_reply.AclOf acl)) is = refl
+no_refusal s (OfObjects (objects_reply.Objects page)) is = refl
+no_refusal s (OfUploads (uploads_reply.Uploads page)) is = refl
 no_refusal s (replies.Stored etag) is = refl
-no_refusal s (replies.Object head from length partial body) is = refl
-no_refusal s (replies.Started bucket key id) is = refl
-no_refusal s (replies.Parts bucket key id marker max items truncated) is = refl
-no_refusal s (replies.Completed bucket key etag) is = refl
-no_refusal s (replies.Deleted keys quiet) is = refl
-no_refusal s (replies.Copied part etag modified) is = refl
+no_refusal s (replies.Object object) is = refl
+no_refusal s (OfUploads (uploads_reply.Started started)) is = refl
+no_refusal s (OfUploads (uploads_reply.Parts page)) is = refl
+no_refusal s (OfUploads (uploads_reply.Completed completed)) is = refl
+no_refusal s (OfObjects (objects_reply.Deleted deleted)) is = refl
+no_refusal s (replies.Copied copied) is = refl
 
 module _ {s : Shows} {before : ℕ} {a b : History} where
   -- of one for a reason of which nothing is told nothing is asked
@@ -66,66 +69,70 @@ stops_behind {n = n} {s = s} {before = before} {a = a} {b = b} {c = c} asks (Ok 
 stops_behind asks (Err fault) stops = record { so = tt }
 
 -- each reason takes a call at least
-late_code : (s : Shows) → 1 ≤ s.buckets → 1 ≤ s.object → (c : Code) (p q : ℕ) → q ≤ p + 1 → IfSome (code_shown_by s c) (λ n. 0 + q ≤ p + n)
-late_code s buckets object code.AccessDenied p q within = omega arith
-late_code s buckets object code.AuthorizationHeaderMalformed p q within = tt
-late_code s buckets object code.AuthorizationQueryParametersError p q within = tt
-late_code s buckets object code.BadDigest p q within = tt
-late_code s buckets object code.BucketAlreadyOwnedByYou p q within = omega arith
-late_code s buckets object code.BucketNotEmpty p q within = omega arith
-late_code s buckets object code.EntityTooLarge p q within = omega arith
-late_code s buckets object code.EntityTooSmall p q within = tt
-late_code s buckets object code.IncompleteBody p q within = tt
-late_code s buckets object code.InconsistentStore p q within = tt
-late_code s buckets object code.InvalidAccessKeyId p q within = tt
-late_code s buckets object code.InvalidArgument p q within = tt
-late_code s buckets object code.InvalidBucketName p q within = tt
-late_code s buckets object code.InvalidDigest p q within = tt
-late_code s buckets object code.InvalidPart p q within = tt
-late_code s buckets object code.InvalidPartOrder p q within = omega arith
-late_code s buckets object code.InvalidRange p q within = omega arith
-late_code s buckets object code.InvalidRequest p q within = omega arith
-late_code s buckets object code.InvalidStorageClass p q within = tt
-late_code s buckets object code.InvalidURI p q within = tt
-late_code s buckets object code.KeyTooLongError p q within = tt
-late_code s buckets object code.MalformedXML p q within = tt
-late_code s buckets object code.MetadataTooLarge p q within = tt
-late_code s buckets object code.MethodNotAllowed p q within = tt
-late_code s buckets object code.MissingContentLength p q within = tt
-late_code s buckets object code.NoSuchBucket p q within = omega arith
-late_code s buckets object code.NoSuchKey p q within = omega arith
-late_code s buckets object code.NoSuchUpload p q within = omega arith
-late_code s buckets object code.NotImplemented p q within = omega arith
-late_code s buckets object code.PreconditionFailed p q within = omega arith
-late_code s buckets object code.RequestTimeTooSkewed p q within = tt
-late_code s buckets object code.ServiceUnavailable p q within = tt
-late_code s buckets object code.SignatureDoesNotMatch p q within = tt
-late_code s buckets object code.XAmzContentSHA256Mismatch p q within = tt
+late_met : (m : Option ℕ) (p q : ℕ) → q ≤ p + 1 → IfSome m (λ n. 1 ≤ n) → IfSome m (λ n. 0 + q ≤ p + n)
+late_met None p q within met = tt
+late_met (Some n) p q within met = omega arith
 
-late : (s : Shows) → 1 ≤ s.buckets → 1 ≤ s.object → (reply : Reply) (p q : ℕ) → q ≤ p + 1 → IfSome (shown_by s reply) (λ n. 0 + q ≤ p + n)
-late s buckets object (replies.Refused c) p q within = late_code s buckets object c p q within
-late s buckets object (replies.NotModified head) p q within = omega arith
-late s buckets object replies.Memory p q within = tt
-late s buckets object replies.Done p q within = tt
-late s buckets object replies.Gone p q within = tt
-late s buckets object (replies.Buckets items) p q within = tt
-late s buckets object (replies.Made bucket) p q within = tt
-late s buckets object (replies.Location region) p q within = tt
-late s buckets object (replies.AclOf acl) p q within = tt
-late s buckets object (replies.Objects bucket asked items truncated) p q within = tt
-late s buckets object (replies.Uploads bucket prefix key_marker id_marker max url items truncated) p q within = tt
-late s buckets object (replies.Stored etag) p q within = tt
-late s buckets object (replies.Object head from length partial body) p q within = tt
-late s buckets object (replies.Started bucket key id) p q within = tt
-late s buckets object (replies.Parts bucket key id marker max items truncated) p q within = tt
-late s buckets object (replies.Completed bucket key etag) p q within = tt
-late s buckets object (replies.Deleted keys quiet) p q within = tt
-late s buckets object (replies.Copied part etag modified) p q within = tt
+late_code : (s : Shows) → 1 ≤ s.buckets → 1 ≤ s.object → IfSome s.met (λ n. 1 ≤ n) → (c : Code) (p q : ℕ) → q ≤ p + 1 → IfSome (code_shown_by s c) (λ n. 0 + q ≤ p + n)
+late_code s buckets object met code.AccessDenied p q within = omega arith
+late_code s buckets object met code.AuthorizationHeaderMalformed p q within = tt
+late_code s buckets object met code.AuthorizationQueryParametersError p q within = tt
+late_code s buckets object met code.BadDigest p q within = tt
+late_code s buckets object met code.BucketAlreadyOwnedByYou p q within = omega arith
+late_code s buckets object met code.BucketNotEmpty p q within = omega arith
+late_code s buckets object met code.EntityTooLarge p q within = omega arith
+late_code s buckets object met code.EntityTooSmall p q within = tt
+late_code s buckets object met code.IncompleteBody p q within = tt
+late_code s buckets object met code.InconsistentStore p q within = tt
+late_code s buckets object met code.InvalidAccessKeyId p q within = tt
+late_code s buckets object met code.InvalidArgument p q within = tt
+late_code s buckets object met code.InvalidBucketName p q within = tt
+late_code s buckets object met code.InvalidDigest p q within = tt
+late_code s buckets object met code.InvalidPart p q within = tt
+late_code s buckets object met code.InvalidPartOrder p q within = omega arith
+late_code s buckets object met code.InvalidRange p q within = omega arith
+late_code s buckets object met code.InvalidRequest p q within = omega arith
+late_code s buckets object met code.InvalidStorageClass p q within = tt
+late_code s buckets object met code.InvalidURI p q within = tt
+late_code s buckets object met code.KeyTooLongError p q within = tt
+late_code s buckets object met code.MalformedXML p q within = tt
+late_code s buckets object met code.MetadataTooLarge p q within = tt
+late_code s buckets object met code.MethodNotAllowed p q within = tt
+late_code s buckets object met code.MissingContentLength p q within = tt
+late_code s buckets object met code.NoSuchBucket p q within = omega arith
+late_code s buckets object met code.NoSuchKey p q within = late_met s.met p q within met
+late_code s buckets object met code.NoSuchUpload p q within = omega arith
+late_code s buckets object met code.NotImplemented p q within = omega arith
+late_code s buckets object met code.PreconditionFailed p q within = late_met s.met p q within met
+late_code s buckets object met code.RequestTimeTooSkewed p q within = tt
+late_code s buckets object met code.ServiceUnavailable p q within = tt
+late_code s buckets object met code.SignatureDoesNotMatch p q within = tt
+late_code s buckets object met code.XAmzContentSHA256Mismatch p q within = tt
+
+late : (s : Shows) → 1 ≤ s.buckets → 1 ≤ s.object → IfSome s.met (λ n. 1 ≤ n) → (reply : Reply) (p q : ℕ) → q ≤ p + 1 → IfSome (shown_by s reply) (λ n. 0 + q ≤ p + n)
+late s buckets object met (replies.Refused c) p q within = late_code s buckets object met c p q within
+late s buckets object met (replies.NotModified head) p q within = omega arith
+late s buckets object met replies.Memory p q within = tt
+late s buckets object met replies.Done p q within = tt
+late s buckets object met replies.Gone p q within = tt
+late s buckets object met (OfObjects (objects_reply.Buckets items)) p q within = tt
+late s buckets object met (OfObjects (objects_reply.Made bucket)) p q within = tt
+late s buckets object met (OfObjects (objects_reply.Location region)) p q within = tt
+late s buckets object met (OfObjects (objects_reply.AclOf acl)) p q within = tt
+late s buckets object met (OfObjects (objects_reply.Objects page)) p q within = tt
+late s buckets object met (OfUploads (uploads_reply.Uploads page)) p q within = tt
+late s buckets object met (replies.Stored etag) p q within = tt
+late s buckets object met (replies.Object bytes) p q within = tt
+late s buckets object met (OfUploads (uploads_reply.Started started)) p q within = tt
+late s buckets object met (OfUploads (uploads_reply.Parts page)) p q within = tt
+late s buckets object met (OfUploads (uploads_reply.Completed completed)) p q within = tt
+late s buckets object met (OfObjects (objects_reply.Deleted deleted)) p q within = tt
+late s buckets object met (replies.Copied copied) p q within = tt
 
 -- so a plan of one call stops at it
-pub stops_at_once : {s : Shows} {a b : History} → 1 ≤ s.buckets → 1 ≤ s.object → (end : Result Reply PlanFault) → b.called ≤ a.called + 1 → Stops s 0 a b end
-stops_at_once {s = s} {a = a} {b = b} buckets object (Ok reply) within = record { so = late s buckets object reply a.called b.called within }
-stops_at_once buckets object (Err fault) within = record { so = tt }
+pub stops_at_once : {s : Shows} {a b : History} → 1 ≤ s.buckets → 1 ≤ s.object → IfSome s.met (λ n. 1 ≤ n) → (end : Result Reply PlanFault) → b.called ≤ a.called + 1 → Stops s 0 a b end
+stops_at_once {s = s} {a = a} {b = b} buckets object met (Ok reply) within = record { so = late s buckets object met reply a.called b.called within }
+stops_at_once buckets object met (Err fault) within = record { so = tt }
 
 -- the reply by the end of a whole plan
 pub shown_of : (op : Op) (a b : History) (end : Result Reply PlanFault) → Stops (shows op) 0 a b end → IsWithinShown (most_refused op (reply_of end)) a.called b.called

@@ -10,7 +10,7 @@ use gate_base::{Bytes, List, MemLine, NoCount, drop};
 use http_wire::{Got, Message, ReadFault};
 use s3_names::Target;
 use sign_cmd::sign_first;
-use sigv4::{Keys, canonical, hmac, is_date_time, verify};
+use sigv4::{Keys, SignedRequest, canonical, hmac, is_date_time, verify};
 use std::alloc::Global;
 use trial_requests::{MOST_TRIAL_REQUESTS, trial_input};
 
@@ -119,10 +119,13 @@ fn tell_signature_verdict(
 ) {
     let moment = number_of_text(text, told);
     if let Some(keys) = told.keep_made(Keys::read(alloc, KEY_TEXT.as_bytes())) {
-        tell_value(
-            &verify(alloc, &keys, USUAL_REGION, message, target, moment),
-            told,
-        );
+        let request = SignedRequest {
+            message,
+            target,
+            region: USUAL_REGION,
+            moment,
+        };
+        tell_value(&verify(alloc, &keys, &request), told);
     }
 }
 

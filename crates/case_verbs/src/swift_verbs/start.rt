@@ -12,7 +12,7 @@ use gate_base::{Bytes, List, Memory};
 use planned_swift::{Account, Container, MemSwift};
 use slo_manifest::{Form, Segment, read};
 use std::alloc::Global;
-use swift_calls::{Content, ReadList, Stored, SwiftRequest, drop_request};
+use swift_calls::{Content, FilePut, ReadList, Stored, SwiftRequest, drop_request};
 use swift_requests::Place;
 
 /// An account in the order of its names, with objects that aren't too large.
@@ -62,13 +62,15 @@ impl Start {
     /// Adds the large object that a call puts whose body is its manifest.
     fn add_large_object(&mut self, alloc: Global, call: SwiftRequest) -> Result<(), Fault> {
         match call {
-            SwiftRequest::PutObject {
-                container,
-                name,
-                content_type,
-                meta,
-                body,
-            } => {
+            SwiftRequest::PutObject(put) => {
+                let FilePut {
+                    container,
+                    name,
+                    content_type,
+                    meta,
+                    body,
+                    ..
+                } = put;
                 let object = Stored {
                     content: large_content_of_manifest(alloc, body.as_slice())?,
                     name,

@@ -11,7 +11,7 @@ use gate_base::{Bytes, List, Memory, drop};
 use http_answers::answer_end;
 use http_wire::{Got, Message};
 use std::alloc::Global;
-use swift_calls::{SwiftRequest, drop_request, is_fit};
+use swift_calls::{FilePut, SwiftRequest, drop_request, is_fit};
 use swift_replies::{WireFault, read_answer};
 use swift_requests::{Place, has_account_token, is_place, read_call, write_call};
 
@@ -62,32 +62,38 @@ pub(crate) fn read_next_call(
     }
 }
 
-/// Tells the call of the first request, and how it is written.
-pub(crate) fn tell_read_call(alloc: Global, given: &[u8], told: &mut Told) {
+/// Tells the call of the first request, and how it is written; by `newest`, how it is written so that all replicas are asked.
+pub(crate) fn tell_read_call(alloc: Global, text: &str, given: &[u8], told: &mut Told) {
     if let Some(place) = place_of_all_calls(alloc, told) {
-        tell_call_at_place(alloc, &place, given, told);
+        tell_call_at_place(alloc, &place, text == "newest", given, told);
     }
 }
 
-fn tell_call_at_place(alloc: Global, place: &Place, given: &[u8], told: &mut Told)
+fn tell_call_at_place(alloc: Global, place: &Place, newest: bool, given: &[u8], told: &mut Told)
     requires { IsPlace place.now }
 {
     if let Some(mut talk) = Talk::open_over_bytes(alloc, given, told) {
         match talk.next_front() {
-            Ok(Got::Request(message)) => tell_call_of_message(alloc, place, message, told),
+            Ok(Got::Request(message)) => tell_call_of_message(alloc, place, newest, message, told),
             other => tell_owned_value(other, told),
         }
     }
 }
 
-fn tell_call_of_message(alloc: Global, place: &Place, message: Message, told: &mut Told)
+fn tell_call_of_message(
+    alloc: Global,
+    place: &Place,
+    newest: bool,
+    message: Message,
+    told: &mut Told,
+)
     requires { IsPlace place.now }
 {
     let is_known = has_account_token(place, &message);
     tell_value(&is_known, told);
     if is_known {
         let read = read_call(alloc, place, message);
-        tell_call_and_request(alloc, place, &read, told);
+        tell_call_and_request(alloc, place, newest, &read, told);
         drop(read);
     }
 }
@@ -95,6 +101,7 @@ fn tell_call_of_message(alloc: Global, place: &Place, message: Message, told: &m
 fn tell_call_and_request(
     alloc: Global,
     place: &Place,
+    newest: bool,
     read: &Result<SwiftRequest, WireFault>,
     told: &mut Told,
 )
@@ -103,7 +110,7 @@ fn tell_call_and_request(
     tell_value(read, told);
     if let Ok(call) = read {
         if is_fit(call) {
-            tell_owned_value(request_of_call(alloc, place, call), told);
+            tell_owned_value(request_of_call(alloc, place, call, newest), told);
         } else {
             told.note_fault(Fault::Unread("a call isn't within the limits"));
         }
@@ -111,11 +118,16 @@ fn tell_call_and_request(
 }
 
 /// The request that is written for a call, in one piece.
-fn request_of_call(alloc: Global, place: &Place, call: &SwiftRequest) -> Result<Bytes, Memory>
+fn request_of_call(
+    alloc: Global,
+    place: &Place,
+    call: &SwiftRequest,
+    newest: bool,
+) -> Result<Bytes, Memory>
     requires place { IsPlace place.now }
     requires fit { Fit call.now }
 {
-    let written = write_call(alloc, place, call)?;
+    let written = write_call(alloc, place, call, newest)?;
     let mut request = Bytes::from_slice(alloc, written.head.as_slice())?;
     request.append(written.body(call))?;
     Ok(request)
@@ -187,11 +199,12 @@ fn put_call_with_piece(
     let mut meta = List::new(alloc);
     let piece = bytes_of_escaped_text(alloc, piece, told);
     told.push(&mut meta, piece);
-    SwiftRequest::PutObject {
+    SwiftRequest::PutObject(FilePut {
         container: copy_of_bytes(alloc, b"photos", told),
         name: copy_of_bytes(alloc, b"k", told),
         content_type: bytes_of_escaped_text(alloc, content_type, told),
         meta,
         body: Bytes::new(alloc),
-    }
+        fresh: false,
+    })
 }

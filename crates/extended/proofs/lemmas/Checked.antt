@@ -2,15 +2,16 @@
 use Rattle.std.proofs.Common.{◌≡◌, ◌≢◌, ℕ, Bool, true, false, cond, List, [], ◌∷◌, Option, None, Some, IfSome, refl, sym, subst}
 use Rattle.gate_base.specs.declared.page.Pair.{Pair}
 use Rattle.s3_machine.specs.declared.code.Code.{Code}
-use Rattle.s3_machine.specs.declared.code.Code.TheVariants.{BadDigest, InvalidRequest, NotImplemented}
+use Rattle.s3_machine.specs.declared.code.Code.TheVariants.{InvalidRequest, NotImplemented}
 use Rattle.s3_machine.specs.declared.operation.Settings.{Settings}
 use Rattle.s3_names.specs.declared.target.Target.{Target}
 use Rattle.http_wire.specs.declared.message.Message.{Message}
 use Rattle.s3_requests.specs.declared.meant.Meant.{Meant}
 use Rattle.s3_requests.specs.declared.meant.Meant.TheVariants as meant
 use Rattle.s3_requests.specs.Meaning.{meaning_of}
-use Rattle.s3_requests.specs.Proper.{IsProperCode, IsProperMeant}
-use Rattle.s3_requests.proofs.lemmas.Proper.{proper_code, meaning_known, meaning_proper}
+use Rattle.s3_machine.specs.Proper.{IsProperCode}
+use Rattle.s3_requests.specs.Proper.{IsProperMeant}
+use Rattle.s3_requests.proofs.lemmas.Proper.{meaning_known, meaning_proper}
 use Rattle.checksums.specs.declared.kinds.Kind.{Kind}
 use Rattle.checksums.specs.declared.values.Comparison.{Comparison}
 use Rattle.checksums.specs.declared.values.Comparison.TheVariants.{Same, Different, NotAChecksum}
@@ -21,8 +22,8 @@ use Rattle.extended.specs.Checked.{comparison_code, kind_code, or_code, first_co
 
 comparison_proper : (comparison : Comparison) → IfSome (comparison_code comparison) IsProperCode
 comparison_proper Same = tt
-comparison_proper Different = proper_code BadDigest refl
-comparison_proper NotAChecksum = proper_code InvalidRequest refl
+comparison_proper Different = refl
+comparison_proper NotAChecksum = refl
 
 kind_proper : (kind : Option Kind) (value bytes : List ℕ) → IfSome (kind_code kind value bytes) IsProperCode
 kind_proper None value bytes = tt
@@ -42,8 +43,8 @@ if_proper true first second one other = one
 if_proper false first second one other = other
 
 objection_by_proper : (claims : Claims) (bytes : Option (List ℕ)) → IfSome (objection_by claims bytes) IsProperCode
-objection_by_proper claims None = if_proper claims.chunked (Some NotImplemented) None (proper_code NotImplemented refl) tt
-objection_by_proper claims (Some bytes) = if_proper claims.misnamed (Some InvalidRequest) (first_code bytes claims.checksums) (proper_code InvalidRequest refl) (first_proper bytes claims.checksums)
+objection_by_proper claims None = if_proper claims.chunked (Some NotImplemented) None refl tt
+objection_by_proper claims (Some bytes) = if_proper claims.misnamed (Some InvalidRequest) (first_code bytes claims.checksums) refl (first_proper bytes claims.checksums)
 
 objection_proper : (claims : Claims) (means : Meant) → IfSome (objection claims means) IsProperCode
 objection_proper claims (meant.Op op) = objection_by_proper claims (stored_bytes op)

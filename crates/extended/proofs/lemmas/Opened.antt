@@ -11,8 +11,8 @@ use Rattle.http_wire.specs.Headers.{first_value, has_header, has_single_header}
 use Rattle.text_forms.specs.Numbers.{number_of}
 use Rattle.s3_requests.specs.declared.meant.Meant.{Meant}
 use Rattle.s3_requests.specs.declared.meant.Meant.TheVariants as meant
-use Rattle.s3_requests.specs.Proper.{IsProperCode, IsProperMeant}
-use Rattle.s3_requests.proofs.lemmas.Proper.{proper_code}
+use Rattle.s3_machine.specs.Proper.{IsProperCode}
+use Rattle.s3_requests.specs.Proper.{IsProperMeant}
 use Rattle.sigv4.specs.declared.authorization.Authorization.{Authorization}
 use Rattle.sigv4.specs.declared.keys.AccessKey.{AccessKey}
 use Rattle.sigv4.specs.declared.pieces.Seal.{Seal}
@@ -99,16 +99,16 @@ if_proper true code rest one others = one
 if_proper false code rest one others = others
 
 value_proper : (largest : ℕ) (count : Option ℕ) → IfErr (announced_value largest count) IsProperCode
-value_proper largest None = proper_code InvalidRequest refl
-value_proper largest (Some count) = if_proper (nat_lt largest count) EntityTooLarge (Ok count) (proper_code EntityTooLarge refl) tt
+value_proper largest None = refl
+value_proper largest (Some count) = if_proper (nat_lt largest count) EntityTooLarge (Ok count) refl tt
 
 pub announced_proper : (largest : ℕ) (headers : List Pair) → IfErr (announced_length largest headers) IsProperCode
 announced_proper largest headers =
     let count = number_of 19 (first_value (codes "x-amz-decoded-content-length") headers) in
     let one = has_single_header (codes "x-amz-decoded-content-length") headers in
     if_proper (not (has_header (codes "x-amz-decoded-content-length") headers)) MissingContentLength (cond (not one) (Err InvalidRequest) (announced_value largest count))
-    (proper_code MissingContentLength refl)
-    (if_proper (not one) InvalidRequest (announced_value largest count) (proper_code InvalidRequest refl) (value_proper largest count))
+    refl
+    (if_proper (not one) InvalidRequest (announced_value largest count) refl (value_proper largest count))
 
 opened_by_proper : (caller : Caller) (message : Message) (decoded : Result Decoded ChunkedFault) → IfErr (opened_by caller message decoded) IsProperMeant
 opened_by_proper caller message (Ok decoded) = tt
@@ -119,7 +119,7 @@ opened_with_proper caller form seal message (Ok count) proper = opened_by_proper
 opened_with_proper caller form seal message (Err code) proper = proper
 
 unsigned_proper : (b : Bool) (rest : Result Opened Meant) → IfErr rest IsProperMeant → IfErr (cond b (Err (meant.Refused InvalidRequest)) rest) IsProperMeant
-unsigned_proper true rest proper = proper_code InvalidRequest refl
+unsigned_proper true rest proper = refl
 unsigned_proper false rest proper = proper
 
 opened_for_proper : (largest : ℕ) (form : ChunkedForm) (message : Message) (head : Result (Option Seal) Refusal) → IfErr (opened_for largest form message head) IsProperMeant

@@ -1,10 +1,8 @@
 -- What a request is answered whose signature or body is refused: a proper code, unless memory ran out.
 use Rattle.std.proofs.Common.{◌≡◌, ◌≢◌, Bool, true, false, cond, Option, Result, Err, refl}
 use Rattle.gate_base.specs.declared.caller.Caller.{Caller}
-use Rattle.s3_machine.specs.declared.code.Code.TheVariants.{AccessDenied, AuthorizationHeaderMalformed, IncompleteBody, InvalidAccessKeyId, InvalidRequest, NotImplemented, RequestTimeTooSkewed, SignatureDoesNotMatch, XAmzContentSHA256Mismatch}
 use Rattle.s3_requests.specs.declared.meant.Meant.TheVariants as meant
 use Rattle.s3_requests.specs.Proper.{IsProperMeant}
-use Rattle.s3_requests.proofs.lemmas.Proper.{proper_code}
 use Rattle.sigv4.specs.declared.refusal.Refusal.{Refusal}
 use Rattle.sigv4.specs.declared.refusal.Refusal.TheVariants as signature
 use Rattle.sigv4.specs.declared.pieces.Seal.{Seal}
@@ -33,16 +31,16 @@ refusal_known signature.PayloadDiffers other = λ e. cc
 refusal_known signature.Memory other = absurd (other refl)
 
 pub refused_proper : (refusal : Refusal) → IsProperMeant (refused_by refusal)
-refused_proper signature.HeaderMalformed = proper_code AuthorizationHeaderMalformed refl
-refused_proper signature.UnknownKey = proper_code InvalidAccessKeyId refl
-refused_proper signature.WrongScope = proper_code AuthorizationHeaderMalformed refl
-refused_proper signature.UnsignedHeader = proper_code AccessDenied refl
-refused_proper signature.NoDate = proper_code AccessDenied refl
-refused_proper signature.Skewed = proper_code RequestTimeTooSkewed refl
-refused_proper signature.Streaming = proper_code NotImplemented refl
-refused_proper signature.NoPayloadHash = proper_code InvalidRequest refl
-refused_proper (signature.SignatureDiffers hash) = proper_code SignatureDoesNotMatch refl
-refused_proper signature.PayloadDiffers = proper_code XAmzContentSHA256Mismatch refl
+refused_proper signature.HeaderMalformed = refl
+refused_proper signature.UnknownKey = refl
+refused_proper signature.WrongScope = refl
+refused_proper signature.UnsignedHeader = refl
+refused_proper signature.NoDate = refl
+refused_proper signature.Skewed = refl
+refused_proper signature.Streaming = refl
+refused_proper signature.NoPayloadHash = refl
+refused_proper (signature.SignatureDiffers hash) = refl
+refused_proper signature.PayloadDiffers = refl
 refused_proper signature.Memory = tt
 
 -- a refusal that isn't a lack of memory is the one that is expected
@@ -80,7 +78,7 @@ chunks_known chunks.SignatureDiffers other = λ e. cc
 chunks_known chunks.Memory other = absurd (other refl)
 
 pub chunks_proper : (fault : ChunkedFault) → IsProperMeant (refused_by_chunks fault)
-chunks_proper chunks.IncompleteBody = proper_code IncompleteBody refl
-chunks_proper chunks.InvalidRequest = proper_code InvalidRequest refl
-chunks_proper chunks.SignatureDiffers = proper_code SignatureDoesNotMatch refl
+chunks_proper chunks.IncompleteBody = refl
+chunks_proper chunks.InvalidRequest = refl
+chunks_proper chunks.SignatureDiffers = refl
 chunks_proper chunks.Memory = tt

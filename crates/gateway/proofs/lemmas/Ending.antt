@@ -10,6 +10,7 @@ use Rattle.s3_machine.specs.declared.operation.Op.{Op}
 use Rattle.s3_machine.specs.declared.operation.Reply.{Reply}
 use Rattle.s3_machine.specs.declared.operation.Reply.TheVariants.{Refused, Memory}
 use Rattle.s3_machine.specs.declared.operation.Settings.{Settings}
+use Rattle.s3_machine.specs.Proper.{is_store_fault}
 use Rattle.s3_machine.proofs.lemmas.StepLemmas.{machine_reply}
 use Rattle.swift_calls.specs.History.{History}
 use Rattle.upload_records.specs.Native.{s3_state}
@@ -40,7 +41,7 @@ performs_consistent (answered settled answers beside bound shown) = by_machine a
 
 -- it comes over no observable store whose account is consistent
 replies_consistent : {settings : Settings} {h : History} {old new : StoreCursor} {span : Span} {request : Request} {label : Label} {reply : Reply} → Replies settings h old span new request label reply → reply ≢ Refused InconsistentStore
-replies_consistent (refused code means is proper sound same takes) says = let same : code ≡ InconsistentStore = cc in proper.consistent same
+replies_consistent (refused code means is proper sound same takes) says = let same : code ≡ InconsistentStore = cc in let no : true ≡ false = sym (ap is_store_fault same) ∙ proper in cc
 replies_consistent (performed op means performs caused known) says = performs_consistent performs says
 
 -- ---- the end of a connection whose request was answered in whole

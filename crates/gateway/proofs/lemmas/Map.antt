@@ -1,7 +1,7 @@
 -- What is said of the replies of a connection, said otherwise: a connection over one relation is one over another that follows
 -- from it. So it is with a history that went on, and with replies where no fault was counted.
 use Rattle.std.specs.Prelude.{◌≡◌, ◌≢◌, ◌≤◌, ◌⊎◌, ℕ, ◌+◌, Bool, true, false, List, Option}
-use Rattle.std.proofs.Common.{sym, subst, ◌∙◌, inl, inr, arith}
+use Rattle.std.proofs.Common.{sym, ap, subst, ◌∙◌, inl, inr, arith}
 use Rattle.gate_base.specs.Causes.{Rose}
 use Rattle.gate_base.specs.declared.outside.Piece.{Piece}
 use Rattle.s3_machine.specs.declared.code.Code.{Code}
@@ -23,7 +23,7 @@ use Rattle.account_calls.specs.Known.{IsKnown}
 use Rattle.account_calls.proofs.lemmas.Agree.{quiet_agree, last_failed_agree, answers_agree, beside_agree}
 use Rattle.gateway.specs.declared.ended.Ended.{Ended}
 use Rattle.gateway.specs.declared.service.Service.{Service}
-use Rattle.s3_requests.specs.Proper.{IsProperCode}
+use Rattle.s3_machine.specs.Proper.{IsProperCode, is_store_fault}
 use Rattle.gateway.specs.Request.{Request}
 use Rattle.gateway.specs.Exchange.{ReplyRelation, StoreCursor, Span, Asked, asked_by, IsSpan, SettledBy, NotSettledBy, IsCaused, Performs, unsettled, answered, Replies, refused, performed, RepliesAny, refused_any, performed_any, RepliesBy, FaultFreeReplies, Exchange, CutExchange, PartExchange}
 use Rattle.gateway.specs.Connection.{Progress, ConnectionCursor, Serves, Exchanges, none, more, Breaks, Parts, Ends, over, cut, served, unread, unheard, untold, broken, parted, ConnectionTrace}
@@ -221,7 +221,7 @@ by_agree false settings kept = λ old new span request label reply is_span betwe
 
 -- a request whose code is a proper one is not answered ServiceUnavailable
 proper_available : {code : Code} {reply : Reply} → reply ≡ Refused code → IsProperCode code → reply ≢ Refused ServiceUnavailable
-proper_available {code = code} is proper says = let same : code ≡ ServiceUnavailable = cc in proper.available same
+proper_available {code = code} is proper says = let same : code ≡ ServiceUnavailable = cc in let no : true ≡ false = sym (ap is_store_fault same) ∙ proper in cc
 
 -- an operation is answered so only where a fault was counted
 caused_available : {first last old new : StoreCursor} {op : Op} {reply : Reply} → old.faults ≤ new.faults → Between first last old new → (Rose first.faults last.faults → ⊥) → IsCaused old new op reply

@@ -1,5 +1,5 @@
 -- How requests that are served over a world follow one another.
-use Rattle.std.proofs.Common.{◌≡◌, Bool, IsTrue}
+use Rattle.std.proofs.Common.{◌≡◌, Bool, IsTrue, refl, ◌∙◌}
 use Rattle.gate_base.specs.Line.{LineModel}
 use Rattle.gate_base.specs.Told.{SourceModel}
 use Rattle.s3_machine.specs.declared.operation.Settings.{Settings}
@@ -10,7 +10,8 @@ use Rattle.account_calls.specs.Calls.{Any, Met}
 use Rattle.account_calls.specs.Known.{IsKnown}
 use Rattle.account_calls.proofs.lemmas.Idle.{goes_none, goes_trans}
 use Rattle.gateway.specs.Exchange.{ReplyRelation, RepliesBy, Where}
-use Rattle.gateway.specs.World.{World, world, IsObservable, Continues, ServesOver}
+use Rattle.gateway.specs.World.{World, world, IsObservable, Continues, ServesOver, StaysLent}
+use Rattle.gateway.specs.declared.world.World.{World as Lent}
 use Rattle.gateway.proofs.Replying.{stands_still}
 use Rattle.gateway.proofs.Looping.{where_map, met_now, stands_trans}
 
@@ -63,3 +64,11 @@ serves_trans {middle = middle} first then joined = record {
       joined t all (where_map all (λ (m : Met (IsKnown middle.known) middle.store). then.on.store.kept m.observable) given)
       (first.effect t all met) (then.effect (observable_on first.on t) all given);
 }
+
+-- ---- what is lent
+
+pub stays_none : {N W C D : Type 0} {lent : Lent N W C D} → StaysLent lent lent
+stays_none = record { line = refl; store = refl; clock = refl; draws = refl }
+
+pub stays_on : {N W C D : Type 0} {old middle new : Lent N W C D} → StaysLent old middle → StaysLent middle new → StaysLent old new
+stays_on first then = record { line = then.line ∙ first.line; store = then.store ∙ first.store; clock = then.clock ∙ first.clock; draws = then.draws ∙ first.draws }

@@ -8,7 +8,7 @@ use Rattle.std.proofs.lemmas.Bool.{and_parts, and_from, or_cases}
 use Rattle.std.proofs.lemmas.Bool.Decides.{nat_tests}
 use Rattle.std.proofs.lemmas.List.{append-nil, append_cancel_left}
 use Rattle.s3_names.specs.Key.{is_key}
-use Rattle.s3_machine.specs.Step.{IsProperKeys}
+use Rattle.s3_machine.specs.Proper.{IsProperKeys}
 use Rattle.s3_machine.specs.declared.limits.TheConstants.{MOST_KEYS}
 use Rattle.xml_forms.specs.Forms.{Either, Exactly, Many, SpellsAll, Then, Word}
 use Rattle.xml_forms.specs.Runs.{has, Element, Spaced}

@@ -4,13 +4,14 @@ use Rattle.std.specs.FinMap.{get}
 use Rattle.s3_names.specs.declared.acl.Acl.{Acl}
 use Rattle.s3_machine.specs.declared.code.Code.TheVariants.{NotImplemented}
 use Rattle.s3_machine.specs.declared.operation.Label.{Label}
-use Rattle.s3_machine.specs.declared.operation.Op.TheVariants.{CopyObject, CopyPart}
-use Rattle.s3_machine.specs.declared.operation.Replaced.{Replaced}
+use Rattle.s3_machine.specs.Ops.{CopyObject, CopyPart}
+use Rattle.s3_machine.specs.declared.operation.Described.{Described}
 use Rattle.s3_machine.specs.declared.operation.Reply.{Reply}
 use Rattle.s3_machine.specs.declared.operation.Settings.{Settings}
 use Rattle.s3_machine.specs.declared.reading.Conditions.{Conditions}
 use Rattle.s3_machine.specs.Conditions.{no_conditions}
 use Rattle.s3_machine.specs.Copies.{may_be_copied}
+use Rattle.s3_machine.specs.declared.only_if.OnlyIf.{OnlyIf}
 use Rattle.s3_machine.specs.State.{Object, Bucket, State}
 use Rattle.s3_machine.specs.Step.{
   Outcome,
@@ -24,6 +25,7 @@ use Rattle.s3_machine.specs.Step.{
   in_source,
   in_upload_by,
   is_other_acl,
+  refusal_in,
   unless,
 }
 use Rattle.s3_machine.proofs.lemmas.StepLemmas.{HasSource, source_there}
@@ -37,13 +39,13 @@ module _ (settings : Settings) (old : State) (bucket key from_bucket from_key : 
   same_source : (f : Object → Outcome) (b : Bucket) → in_source old from_bucket from_key conditions f b ≡ in_source old from_bucket from_key no_conditions f b
   same_source f b = source_there old from_bucket from_key conditions f b has met ∙ sym (source_there old from_bucket from_key no_conditions f b has refl)
 
-  module _ (acl : Option Acl) (replaced : Option Replaced) where
-    same_copies : (b : Bucket) → copies old bucket key acl from_bucket from_key replaced conditions label.moment b ≡ copies old bucket key acl from_bucket from_key replaced no_conditions label.moment b
-    same_copies b = ap (λ rest. unless (is_other_acl acl b.acl) NotImplemented old rest) (same_source (copies_object old bucket key from_bucket from_key replaced label.moment) b)
+  module _ (acl : Option Acl) (replaced : Option Described) (only_if : OnlyIf) where
+    same_copies : (b : Bucket) → copies old bucket key acl from_bucket from_key replaced conditions only_if label.moment b ≡ copies old bucket key acl from_bucket from_key replaced no_conditions only_if label.moment b
+    same_copies b = ap (λ rest. unless (is_other_acl acl b.acl) NotImplemented old rest) (same_source (copies_object old bucket key from_bucket from_key replaced (refusal_in only_if key b) label.moment) b)
 
     -- CopyObject
-    pub copy_as_without : {reply : Reply} {new : State} → S3Step settings old (CopyObject bucket key acl from_bucket from_key replaced no_conditions) label reply new
-        → S3Step settings old (CopyObject bucket key acl from_bucket from_key replaced conditions) label reply new
+    pub copy_as_without : {reply : Reply} {new : State} → S3Step settings old (CopyObject bucket key acl from_bucket from_key replaced no_conditions only_if) label reply new
+        → S3Step settings old (CopyObject bucket key acl from_bucket from_key replaced conditions only_if) label reply new
     copy_as_without s =
         let same = each_bucket (get old bucket) old _ _ same_copies in
         record { id = s.id; free = tt; replies = s.replies ∙ sym (ap (λ (o : Outcome). o.reply) same); goes = s.goes ∙ sym (ap (λ (o : Outcome). o.state) same) }

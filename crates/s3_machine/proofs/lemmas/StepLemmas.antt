@@ -1,6 +1,6 @@
 -- Laws of the step, for the crates above: what each operation does by what is found in the state and in the bucket, and
 -- the replies that the machine never gives.
-use Rattle.std.specs.Prelude.{◌≡◌, ◌≢◌, ◌⊎◌, ℕ, Bool, true, false, not, bytes_eq, nat_lt, List, [], map, length, Option, Some, None, is_some}
+use Rattle.std.specs.Prelude.{◌≡◌, ◌≢◌, ◌⊎◌, ℕ, Bool, true, false, not, if◌then◌else◌, bytes_eq, nat_lt, List, [], map, length, Option, Some, None, is_some}
 use Rattle.std.proofs.Common.{refl, sym, ap, subst, ◌∙◌, inl, inr, true≢false}
 use Rattle.std.specs.FinMap.{get, insert, remove}
 use Rattle.gate_base.specs.Maps.{adjust}
@@ -32,7 +32,15 @@ use Rattle.s3_machine.specs.declared.items.ItemHead.{ItemHead}
 use Rattle.s3_machine.specs.declared.operation.Label.{Label}
 use Rattle.s3_machine.specs.declared.operation.Settings.{Settings}
 use Rattle.s3_machine.specs.declared.operation.Op.{Op}
-use Rattle.s3_machine.specs.declared.operation.Op.TheVariants.{
+use Rattle.s3_machine.specs.declared.operation.Op.TheVariants.{OnObjects, OnUploads, OnCopies}
+use Rattle.s3_machine.specs.declared.operation.Op.TheVariants as op_as
+use Rattle.s3_machine.specs.declared.operation.ObjectsOp.{ObjectsOp}
+use Rattle.s3_machine.specs.declared.operation.ObjectsOp.TheVariants as objects_op
+use Rattle.s3_machine.specs.declared.operation.UploadsOp.{UploadsOp}
+use Rattle.s3_machine.specs.declared.operation.UploadsOp.TheVariants as uploads_op
+use Rattle.s3_machine.specs.declared.operation.CopiesOp.{CopiesOp}
+use Rattle.s3_machine.specs.declared.operation.CopiesOp.TheVariants as copies_op
+use Rattle.s3_machine.specs.Ops.{
   ListBuckets,
   CreateBucket,
   DeleteBucket,
@@ -58,9 +66,10 @@ use Rattle.s3_machine.specs.declared.operation.Op.TheVariants.{
 }
 use Rattle.s3_machine.specs.declared.operation.Listed.{Listed}
 use Rattle.s3_machine.specs.declared.operation.ObjectHead.{ObjectHead}
-use Rattle.s3_machine.specs.declared.operation.Replaced.{Replaced}
+use Rattle.s3_machine.specs.declared.operation.Described.{Described}
 use Rattle.s3_machine.specs.declared.operation.Reply.{Reply}
-use Rattle.s3_machine.specs.declared.operation.Reply.TheVariants.{Refused, Done, Made, Memory, Stored, Gone, Buckets, Location, AclOf, Started, Completed, Deleted, Copied}
+use Rattle.s3_machine.specs.declared.operation.Reply.TheVariants.{Refused, Done, Memory, Stored, Gone}
+use Rattle.s3_machine.specs.Replies.{Made, Buckets, Location, AclOf, Started, Completed, Deleted, Copied}
 use Rattle.s3_machine.specs.declared.reading.Conditions.{Conditions}
 use Rattle.s3_machine.specs.declared.reading.Judged.{Judged}
 use Rattle.s3_machine.specs.declared.reading.Judged.TheVariants.{PreconditionFailed, NotModified, InvalidRange, Bytes}
@@ -69,6 +78,9 @@ use Rattle.s3_machine.specs.declared.reading.Span.{Span}
 use Rattle.s3_machine.specs.Copies.{copied, is_onto_itself, has_last, copied_span, may_be_copied}
 use Rattle.s3_machine.specs.ETag.{body_etag}
 use Rattle.s3_machine.specs.Limits.{body_limit}
+use Rattle.s3_machine.specs.OnlyIf.{refusal}
+use Rattle.s3_machine.specs.declared.only_if.OnlyIf.{OnlyIf}
+use Rattle.s3_machine.specs.declared.only_if.OnlyIf.TheVariants.{Always, Missing, Present, Holds}
 use Rattle.s3_machine.specs.Reading.{judged, taken}
 use Rattle.s3_machine.specs.State.{Object, Part, Upload, Bucket, State}
 use Rattle.s3_machine.specs.Finish.{finished}
@@ -96,6 +108,8 @@ use Rattle.s3_machine.specs.Step.{
   gives,
   refuses,
   unless,
+  unless_refused,
+  refusal_in,
   in_bucket_by,
   in_object_by,
   in_readable,
@@ -180,6 +194,26 @@ unless_true t code old rest e = ap (λ t. unless t code old rest) e
 
 pub unless_false : (t : Bool) (code : Code) (old : State) (rest : Outcome) → t ≡ false → unless t code old rest ≡ rest
 unless_false t code old rest e = ap (λ t. unless t code old rest) e
+
+pub held_back : (held : Option Code) (code : Code) (old : State) (rest : Outcome) → held ≡ Some code → unless_refused held old rest ≡ refuses code old
+held_back held code old rest e = ap (λ held. unless_refused held old rest) e
+
+pub not_held : (held : Option Code) (old : State) (rest : Outcome) → held ≡ None → unless_refused held old rest ≡ rest
+not_held held old rest e = ap (λ held. unless_refused held old rest) e
+
+-- a condition refuses with one of two codes
+pub refusal_is : (only_if : OnlyIf) (etag : Option (List ℕ)) (code : Code) → refusal only_if etag ≡ Some code → (code ≡ NoSuchKey) ⊎ (code ≡ fails_precondition)
+refusal_is Always etag code e = cc
+refusal_is Missing None code e = cc
+refusal_is Missing (Some etag) code e = inr cc
+refusal_is Present None code e = inl cc
+refusal_is Present (Some etag) code e = cc
+refusal_is (Holds asked) None code e = inl cc
+refusal_is (Holds asked) (Some etag) code e = by (bytes_eq asked etag) e
+  where
+    by : (same : Bool) → (if same then None else Some fails_precondition) ≡ Some code → (code ≡ NoSuchKey) ⊎ (code ≡ fails_precondition)
+    by true e = cc
+    by false e = inr cc
 
 pub in_missing : (old : State) (bucket : List ℕ) → get old bucket ≡ None → (f : Bucket → Outcome) → in_bucket_by (get old bucket) old f ≡ refuses NoSuchBucket old
 in_missing old bucket none f = ap (λ v. in_bucket_by v old f) none
@@ -272,9 +306,9 @@ module _ (settings : Settings) (old : State) (bucket key : List ℕ) (label : La
     missing : (f : Bucket → Outcome) → in_bucket_by (get old bucket) old f ≡ refuses NoSuchBucket old
     missing = in_missing old bucket none
 
-    pub put_without_bucket : (acl : Option Acl) (content_type : List ℕ) (meta : List Pair) (body : List ℕ)
-        → S3Step settings old (PutObject bucket key acl content_type meta body) label (Refused NoSuchBucket) old
-    put_without_bucket acl content_type meta body = steps _ _ 0 tt (missing (puts old bucket key acl (new_object label.moment content_type meta body)))
+    pub put_without_bucket : (acl : Option Acl) (content_type : List ℕ) (meta : List Pair) (body : List ℕ) (only_if : OnlyIf)
+        → S3Step settings old (PutObject bucket key acl content_type meta body only_if) label (Refused NoSuchBucket) old
+    put_without_bucket acl content_type meta body only_if = steps _ _ 0 tt (missing (puts old bucket key acl (new_object label.moment content_type meta body) only_if))
 
     pub get_without_bucket : (range : Option Range) (conditions : Conditions) → S3Step settings old (GetObject bucket key range conditions) label (Refused NoSuchBucket) old
     get_without_bucket range conditions = steps _ _ 0 tt (missing (in_readable old label.caller key (reads old (got range conditions))))
@@ -282,23 +316,28 @@ module _ (settings : Settings) (old : State) (bucket key : List ℕ) (label : La
     pub head_without_bucket : (range : Option Range) (conditions : Conditions) → S3Step settings old (HeadObject bucket key range conditions) label (Refused NoSuchBucket) old
     head_without_bucket range conditions = steps _ _ 0 tt (missing (in_readable old label.caller key (reads old (headed range conditions))))
 
-    pub delete_without_bucket : S3Step settings old (DeleteObject bucket key) label (Refused NoSuchBucket) old
-    delete_without_bucket = steps _ _ 0 tt (missing (deletes old bucket key))
+    pub delete_without_bucket : (only_if : OnlyIf) → S3Step settings old (DeleteObject bucket key only_if) label (Refused NoSuchBucket) old
+    delete_without_bucket only_if = steps _ _ 0 tt (missing (deletes old bucket key only_if))
 
   -- in a bucket that is there
   module _ (b : Bucket) (found : get old bucket ≡ Some b) where
     there : (f : Bucket → Outcome) → in_bucket_by (get old bucket) old f ≡ f b
     there = in_found old bucket b found
 
-    pub put_with_another_acl : (acl : Option Acl) (content_type : List ℕ) (meta : List Pair) (body : List ℕ) → is_other_acl acl b.acl ≡ true
-        → S3Step settings old (PutObject bucket key acl content_type meta body) label (Refused NotImplemented) old
-    put_with_another_acl acl content_type meta body e = steps _ _ 0 tt (there (puts old bucket key acl (new_object label.moment content_type meta body))
+    pub put_with_another_acl : (acl : Option Acl) (content_type : List ℕ) (meta : List Pair) (body : List ℕ) (only_if : OnlyIf) → is_other_acl acl b.acl ≡ true
+        → S3Step settings old (PutObject bucket key acl content_type meta body only_if) label (Refused NotImplemented) old
+    put_with_another_acl acl content_type meta body only_if e = steps _ _ 0 tt (there (puts old bucket key acl (new_object label.moment content_type meta body) only_if)
         ∙ unless_true _ _ _ _ e)
 
-    pub step_stored : (acl : Option Acl) (content_type : List ℕ) (meta : List Pair) (body : List ℕ) → is_other_acl acl b.acl ≡ false
-        → S3Step settings old (PutObject bucket key acl content_type meta body) label (Stored (body_etag body)) (adjust bucket (put_object key (new_object label.moment content_type meta body)) old)
-    step_stored acl content_type meta body e = steps _ _ 0 tt (there (puts old bucket key acl (new_object label.moment content_type meta body))
-        ∙ unless_false _ _ _ _ e)
+    pub put_held : (acl : Option Acl) (content_type : List ℕ) (meta : List Pair) (body : List ℕ) (only_if : OnlyIf) (code : Code) → is_other_acl acl b.acl ≡ false → refusal_in only_if key b ≡ Some code
+        → S3Step settings old (PutObject bucket key acl content_type meta body only_if) label (Refused code) old
+    put_held acl content_type meta body only_if code e held = steps _ _ 0 tt (there (puts old bucket key acl (new_object label.moment content_type meta body) only_if)
+        ∙ unless_false _ _ _ _ e ∙ held_back _ _ _ _ held)
+
+    pub step_stored : (acl : Option Acl) (content_type : List ℕ) (meta : List Pair) (body : List ℕ) (only_if : OnlyIf) → is_other_acl acl b.acl ≡ false → refusal_in only_if key b ≡ None
+        → S3Step settings old (PutObject bucket key acl content_type meta body only_if) label (Stored (body_etag body)) (adjust bucket (put_object key (new_object label.moment content_type meta body)) old)
+    step_stored acl content_type meta body only_if e met = steps _ _ 0 tt (there (puts old bucket key acl (new_object label.moment content_type meta body) only_if)
+        ∙ unless_false _ _ _ _ e ∙ not_held _ _ _ met)
 
     pub get_denied : (range : Option Range) (conditions : Conditions) → may_read label.caller b.acl ≡ false
         → S3Step settings old (GetObject bucket key range conditions) label (Refused AccessDenied) old
@@ -331,8 +370,11 @@ module _ (settings : Settings) (old : State) (bucket key : List ℕ) (label : La
         ∙ readable_there old label key (reads old (headed range conditions)) b o e is)
 
     -- also where nothing stands under the key
-    pub step_gone : S3Step settings old (DeleteObject bucket key) label Gone (adjust bucket (drop_object key) old)
-    step_gone = steps _ _ 0 tt (there (deletes old bucket key))
+    pub step_gone : (only_if : OnlyIf) → refusal_in only_if key b ≡ None → S3Step settings old (DeleteObject bucket key only_if) label Gone (adjust bucket (drop_object key) old)
+    step_gone only_if met = steps _ _ 0 tt (there (deletes old bucket key only_if) ∙ not_held _ _ _ met)
+
+    pub delete_held : (only_if : OnlyIf) (code : Code) → refusal_in only_if key b ≡ Some code → S3Step settings old (DeleteObject bucket key only_if) label (Refused code) old
+    delete_held only_if code held = steps _ _ 0 tt (there (deletes old bucket key only_if) ∙ held_back _ _ _ _ held)
 
 -- many keys are deleted at once
 pub delete_all_without_bucket : (settings : Settings) (old : State) (bucket : List ℕ) (keys : List (List ℕ)) (quiet : Bool) (label : Label) → get old bucket ≡ None
@@ -377,17 +419,25 @@ module _ (settings : Settings) (old : State) (bucket key id : List ℕ) (label :
   pub step_aborted : S3Step settings old (AbortUpload bucket key id) label Gone (adjust bucket (drop_upload id) old)
   step_aborted = steps _ _ 0 tt (within (aborts old bucket id))
 
-  -- a completion by the parts that it lists
-  pub step_completed : (list : List Listed) (parts : List Part) → kept_as key list (get has.b.kept id) ≡ None → rises list ≡ true → chosen has.u.parts list ≡ Some parts
-      → is_too_small settings.least_part parts ≡ false
-      → S3Step settings old (CompleteUpload bucket key id list) label (Completed bucket has.u.key (upload_etag (map etag_in parts))) (finished (completed bucket id has.u list parts label.moment) old)
-  step_completed list parts kept ascends chose least = steps _ _ 0 tt (
-      in_found old bucket has.b has.in_bucket (completes settings old bucket key id list label.moment)
-      ∙ ap (λ v. completes_by v settings old bucket key id list label.moment has.b) kept
-      ∙ upload_there old key id (completes_open settings old bucket id list label.moment) has.b has.u has.in_uploads has.of_key
-      ∙ unless_false _ _ _ _ (ap not ascends)
-      ∙ ap (completes_chosen settings old bucket id list label.moment has.u) chose
-      ∙ unless_false _ _ _ _ least)
+  -- a completion by the parts that it lists, but for its condition
+  module _ (list : List Listed) (only_if : OnlyIf) (parts : List Part) (kept : kept_as key list (get has.b.kept id) ≡ None) (ascends : rises list ≡ true) (chose : chosen has.u.parts list ≡ Some parts)
+      (least : is_too_small settings.least_part parts ≡ false) where
+    chosen_all : in_bucket_by (get old bucket) old (completes settings old bucket key id list only_if label.moment)
+        ≡ unless_refused (refusal_in only_if key has.b) old (gives (Completed bucket has.u.key (upload_etag (map etag_in parts))) (finished (completed bucket id has.u list parts label.moment) old))
+    chosen_all =
+        in_found old bucket has.b has.in_bucket (completes settings old bucket key id list only_if label.moment)
+        ∙ ap (λ v. completes_by v settings old bucket key id list only_if label.moment has.b) kept
+        ∙ upload_there old key id (completes_open settings old bucket id list (refusal_in only_if key has.b) label.moment) has.b has.u has.in_uploads has.of_key
+        ∙ unless_false _ _ _ _ (ap not ascends)
+        ∙ ap (completes_chosen settings old bucket id list (refusal_in only_if key has.b) label.moment has.u) chose
+        ∙ unless_false _ _ _ _ least
+
+    pub step_completed : refusal_in only_if key has.b ≡ None
+        → S3Step settings old (CompleteUpload bucket key id list only_if) label (Completed bucket has.u.key (upload_etag (map etag_in parts))) (finished (completed bucket id has.u list parts label.moment) old)
+    step_completed met = steps _ _ 0 tt (chosen_all ∙ not_held _ _ _ met)
+
+    pub complete_held : (code : Code) → refusal_in only_if key has.b ≡ Some code → S3Step settings old (CompleteUpload bucket key id list only_if) label (Refused code) old
+    complete_held code held = steps _ _ 0 tt (chosen_all ∙ held_back _ _ _ _ held)
 
 module _ (settings : Settings) (old : State) (bucket : List ℕ) (label : Label) (b : Bucket) (found : get old bucket ≡ Some b) where
   -- an upload is created under a new id
@@ -405,11 +455,11 @@ module _ (settings : Settings) (old : State) (bucket : List ℕ) (label : Label)
       (in_found old bucket b found (starts old bucket key acl (new_upload key content_type meta label.moment) 0) ∙ unless_true _ _ _ _ e)
 
   -- a completion that is kept is answered again
-  pub step_repeated : (key id : List ℕ) (list : List Listed) (etag : List ℕ) → kept_as key list (get b.kept id) ≡ Some etag
-      → S3Step settings old (CompleteUpload bucket key id list) label (Completed bucket key etag) old
-  step_repeated key id list etag kept = steps _ _ 0 tt (
-      in_found old bucket b found (completes settings old bucket key id list label.moment)
-      ∙ ap (λ v. completes_by v settings old bucket key id list label.moment b) kept)
+  pub step_repeated : (key id : List ℕ) (list : List Listed) (only_if : OnlyIf) (etag : List ℕ) → kept_as key list (get b.kept id) ≡ Some etag
+      → S3Step settings old (CompleteUpload bucket key id list only_if) label (Completed bucket key etag) old
+  step_repeated key id list only_if etag kept = steps _ _ 0 tt (
+      in_found old bucket b found (completes settings old bucket key id list only_if label.moment)
+      ∙ ap (λ v. completes_by v settings old bucket key id list only_if label.moment b) kept)
 
 -- ---- copies
 
@@ -441,23 +491,26 @@ module _ (old : State) (from_bucket from_key : List ℕ) (conditions : Condition
   pub source_there : (has : HasSource old from_bucket from_key) → may_be_copied conditions (head_of has.o) ≡ true → in_source old from_bucket from_key conditions f b ≡ f has.o
   source_there has e = source_found has ∙ unless_false _ _ _ _ (ap not e)
 
-module _ (settings : Settings) (old : State) (bucket key : List ℕ) (acl : Option Acl) (from_bucket from_key : List ℕ) (replaced : Option Replaced) (conditions : Conditions) (label : Label) where
+module _ (settings : Settings) (old : State) (bucket key : List ℕ) (acl : Option Acl) (from_bucket from_key : List ℕ) (replaced : Option Described) (conditions : Conditions) (only_if : OnlyIf) (label : Label) where
   abbrev copying : Op
-  copying = CopyObject bucket key acl from_bucket from_key replaced conditions
+  copying = CopyObject bucket key acl from_bucket from_key replaced conditions only_if
 
-  abbrev object_copies : Object → Outcome
-  object_copies = copies_object old bucket key from_bucket from_key replaced label.moment
+  abbrev in_copies : Bucket → Outcome
+  in_copies = copies old bucket key acl from_bucket from_key replaced conditions only_if label.moment
 
   pub copy_without_bucket : get old bucket ≡ None → S3Step settings old copying label (Refused NoSuchBucket) old
-  copy_without_bucket none = steps _ _ 0 tt (in_missing old bucket none (copies old bucket key acl from_bucket from_key replaced conditions label.moment))
+  copy_without_bucket none = steps _ _ 0 tt (in_missing old bucket none in_copies)
 
   module _ (b : Bucket) (found : get old bucket ≡ Some b) where
+    abbrev object_copies : Object → Outcome
+    object_copies = copies_object old bucket key from_bucket from_key replaced (refusal_in only_if key b) label.moment
+
     pub copy_with_another_acl : is_other_acl acl b.acl ≡ true → S3Step settings old copying label (Refused NotImplemented) old
-    copy_with_another_acl e = steps _ _ 0 tt (in_found old bucket b found (copies old bucket key acl from_bucket from_key replaced conditions label.moment) ∙ unless_true _ _ _ _ e)
+    copy_with_another_acl e = steps _ _ 0 tt (in_found old bucket b found in_copies ∙ unless_true _ _ _ _ e)
 
     module _ (same : is_other_acl acl b.acl ≡ false) where
-      of_source : in_bucket_by (get old bucket) old (copies old bucket key acl from_bucket from_key replaced conditions label.moment) ≡ in_source old from_bucket from_key conditions object_copies b
-      of_source = in_found old bucket b found (copies old bucket key acl from_bucket from_key replaced conditions label.moment) ∙ unless_false _ _ _ _ same
+      of_source : in_bucket_by (get old bucket) old in_copies ≡ in_source old from_bucket from_key conditions object_copies b
+      of_source = in_found old bucket b found in_copies ∙ unless_false _ _ _ _ same
 
       pub copy_without_source_bucket : get old from_bucket ≡ None → S3Step settings old copying label (Refused NoSuchBucket) old
       copy_without_source_bucket none = steps _ _ 0 tt (of_source ∙ source_without_bucket old from_bucket from_key conditions object_copies b none)
@@ -473,9 +526,14 @@ module _ (settings : Settings) (old : State) (bucket key : List ℕ) (acl : Opti
             → S3Step settings old copying label (Refused InvalidRequest) old
         copy_onto_itself met e = steps _ _ 0 tt (of_source ∙ source_there old from_bucket from_key conditions object_copies b has met ∙ unless_true _ _ _ _ e)
 
-        pub step_copied : may_be_copied conditions (head_of has.o) ≡ true → is_onto_itself bucket key from_bucket from_key replaced ≡ false
+        -- by its own condition
+        pub copy_refused : may_be_copied conditions (head_of has.o) ≡ true → is_onto_itself bucket key from_bucket from_key replaced ≡ false → (code : Code) → refusal_in only_if key b ≡ Some code
+            → S3Step settings old copying label (Refused code) old
+        copy_refused met e code held = steps _ _ 0 tt (of_source ∙ source_there old from_bucket from_key conditions object_copies b has met ∙ unless_false _ _ _ _ e ∙ held_back _ _ _ _ held)
+
+        pub step_copied : may_be_copied conditions (head_of has.o) ≡ true → is_onto_itself bucket key from_bucket from_key replaced ≡ false → refusal_in only_if key b ≡ None
             → S3Step settings old copying label (Copied false has.o.etag label.moment) (adjust bucket (put_object key (copied replaced label.moment has.o)) old)
-        step_copied met e = steps _ _ 0 tt (of_source ∙ source_there old from_bucket from_key conditions object_copies b has met ∙ unless_false _ _ _ _ e)
+        step_copied met e kept = steps _ _ 0 tt (of_source ∙ source_there old from_bucket from_key conditions object_copies b has met ∙ unless_false _ _ _ _ e ∙ not_held _ _ _ kept)
 
 -- the bytes of a part that is copied of an object
 abbrev pub bytes_copied : Option (ℕ × ℕ) → Object → List ℕ
@@ -541,6 +599,10 @@ module _ (P : Reply → Type 0) where
   unless_has true code old rest refused own = refused
   unless_has false code old rest refused own = own
 
+  pub unless_refused_has : (held : Option Code) (old : State) (rest : Outcome) → ((code : Code) → held ≡ Some code → P (Refused code)) → P rest.reply → P (unless_refused held old rest).reply
+  unless_refused_has None old rest refused own = own
+  unless_refused_has (Some code) old rest refused own = refused code refl
+
   pub in_bucket_has : (v : Option Bucket) (old : State) (f : Bucket → Outcome) → P (Refused NoSuchBucket) → ((b : Bucket) → v ≡ Some b → P (f b).reply) → P (in_bucket_by v old f).reply
   in_bucket_has None old f refused own = refused
   in_bucket_has (Some b) old f refused own = own b refl
@@ -561,19 +623,20 @@ module _ (P : Reply → Type 0) where
   in_upload_has None key old f refused own = refused
   in_upload_has (Some u) key old f refused own = unless_has _ NoSuchUpload old (f u) refused (own u refl)
 
-  pub chosen_has : (v : Option (List Part)) (settings : Settings) (old : State) (bucket id : List ℕ) (list : List Listed) (moment : ℕ) (u : Upload)
-      → P (Refused InvalidPart) → P (Refused EntityTooSmall) → ((etag : List ℕ) → P (Completed bucket u.key etag)) → P (completes_chosen settings old bucket id list moment u v).reply
-  chosen_has None settings old bucket id list moment u missing small own = missing
-  chosen_has (Some parts) settings old bucket id list moment u missing small own = unless_has _ EntityTooSmall old _ small (own _)
+  pub chosen_has : (v : Option (List Part)) (settings : Settings) (old : State) (bucket id : List ℕ) (list : List Listed) (held : Option Code) (moment : ℕ) (u : Upload)
+      → P (Refused InvalidPart) → P (Refused EntityTooSmall) → ((code : Code) → held ≡ Some code → P (Refused code)) → ((etag : List ℕ) → P (Completed bucket u.key etag)) → P (completes_chosen settings old bucket id list held moment u v).reply
+  chosen_has None settings old bucket id list held moment u missing small refused own = missing
+  chosen_has (Some parts) settings old bucket id list held moment u missing small refused own = unless_has _ EntityTooSmall old _ small (unless_refused_has held old _ refused (own _))
 
-  pub completes_has : (v : Option (List ℕ)) (settings : Settings) (old : State) (bucket key id : List ℕ) (list : List Listed) (moment : ℕ) (b : Bucket)
-      → ((code : Code) → (code ≡ NoSuchUpload) ⊎ ((code ≡ InvalidPartOrder) ⊎ ((code ≡ InvalidPart) ⊎ (code ≡ EntityTooSmall))) → P (Refused code))
-      → ((name etag : List ℕ) → P (Completed bucket name etag)) → P (completes_by v settings old bucket key id list moment b).reply
-  completes_has (Some etag) settings old bucket key id list moment b refused own = own key etag
-  completes_has None settings old bucket key id list moment b refused own =
-      in_upload_has (get b.uploads id) key old (completes_open settings old bucket id list moment) (refused NoSuchUpload (inl refl))
-      (λ u there. unless_has (not (rises list)) InvalidPartOrder old (completes_chosen settings old bucket id list moment u (chosen u.parts list)) (refused InvalidPartOrder (inr (inl refl)))
-      (chosen_has (chosen u.parts list) settings old bucket id list moment u (refused InvalidPart (inr (inr (inl refl)))) (refused EntityTooSmall (inr (inr (inr refl)))) (own u.key)))
+  pub completes_has : (v : Option (List ℕ)) (settings : Settings) (old : State) (bucket key id : List ℕ) (list : List Listed) (only_if : OnlyIf) (moment : ℕ) (b : Bucket)
+      → ((code : Code) → (code ≡ NoSuchUpload) ⊎ ((code ≡ InvalidPartOrder) ⊎ ((code ≡ InvalidPart) ⊎ ((code ≡ EntityTooSmall) ⊎ ((code ≡ NoSuchKey) ⊎ (code ≡ fails_precondition))))) → P (Refused code))
+      → ((name etag : List ℕ) → P (Completed bucket name etag)) → P (completes_by v settings old bucket key id list only_if moment b).reply
+  completes_has (Some etag) settings old bucket key id list only_if moment b refused own = own key etag
+  completes_has None settings old bucket key id list only_if moment b refused own =
+      in_upload_has (get b.uploads id) key old (completes_open settings old bucket id list (refusal_in only_if key b) moment) (refused NoSuchUpload (inl refl))
+      (λ u there. unless_has (not (rises list)) InvalidPartOrder old (completes_chosen settings old bucket id list (refusal_in only_if key b) moment u (chosen u.parts list)) (refused InvalidPartOrder (inr (inl refl)))
+      (chosen_has (chosen u.parts list) settings old bucket id list (refusal_in only_if key b) moment u (refused InvalidPart (inr (inr (inl refl)))) (refused EntityTooSmall (inr (inr (inr (inl refl)))))
+      (λ code held. refused code (inr (inr (inr (inr (refusal_is only_if _ code held)))))) (own u.key)))
 
 -- ---- the replies of the machine
 
@@ -650,16 +713,25 @@ got_reply range conditions o = read_by_reply (head_of o) (λ span. taken span o.
 headed_reply : (range : Option Range) (conditions : Conditions) (o : Object) → IsMachineReply (headed range conditions o)
 headed_reply range conditions o = read_by_reply (head_of o) (λ span. []) (judged range conditions (head_of o))
 
+-- the replies of a write by its condition
+condition_reply : (code : Code) → (code ≡ NoSuchKey) ⊎ (code ≡ fails_precondition) → IsMachineReply (Refused code)
+condition_reply code (inl is) = ((λ f. cc), (λ f. cc), (λ f. cc))
+condition_reply code (inr is) = ((λ f. cc), (λ f. cc), (λ f. cc))
+
+held_reply : (old : State) (only_if : OnlyIf) (key : List ℕ) (b : Bucket) (rest : Outcome) → IsMachineReply rest.reply → IsMachineReply (unless_refused (refusal_in only_if key b) old rest).reply
+held_reply old only_if key b rest own = unless_refused_has IsMachineReply (refusal_in only_if key b) old rest (λ code held. condition_reply code (refusal_is only_if _ code held)) own
+
 -- the replies of the operations on objects
 module _ (old : State) (reply : Reply) where
-  puts_reply : (t : Bool) (etag : List ℕ) (new : State) → reply ≡ (unless t NotImplemented old (gives (Stored etag) new)).reply → IsMachineReply reply
-  puts_reply true etag new e = ((λ f. cc), (λ f. cc), (λ f. cc))
-  puts_reply false etag new e = ((λ f. cc), (λ f. cc), (λ f. cc))
+  puts_reply : (t : Bool) (only_if : OnlyIf) (key : List ℕ) (b : Bucket) (etag : List ℕ) (new : State)
+      → reply ≡ (unless t NotImplemented old (unless_refused (refusal_in only_if key b) old (gives (Stored etag) new))).reply → IsMachineReply reply
+  puts_reply true only_if key b etag new e = ((λ f. cc), (λ f. cc), (λ f. cc))
+  puts_reply false only_if key b etag new e = subst IsMachineReply (sym e) (held_reply old only_if key b (gives (Stored etag) new) ((λ f. cc), (λ f. cc), (λ f. cc)))
 
-  put_reply : (v : Option Bucket) (bucket key : List ℕ) (acl : Option Acl) (o : Object) → reply ≡ (in_bucket_by v old (puts old bucket key acl o)).reply
+  put_reply : (v : Option Bucket) (bucket key : List ℕ) (acl : Option Acl) (o : Object) (only_if : OnlyIf) → reply ≡ (in_bucket_by v old (puts old bucket key acl o only_if)).reply
       → IsMachineReply reply
-  put_reply None bucket key acl o e = ((λ f. cc), (λ f. cc), (λ f. cc))
-  put_reply (Some b) bucket key acl o e = puts_reply (is_other_acl acl b.acl) _ _ e
+  put_reply None bucket key acl o only_if e = ((λ f. cc), (λ f. cc), (λ f. cc))
+  put_reply (Some b) bucket key acl o only_if e = puts_reply (is_other_acl acl b.acl) only_if key b _ _ e
 
   answered_reply : (v : Option Object) (answer : Object → Reply) → ((o : Object) → IsMachineReply (answer o)) → reply ≡ (in_object_by v old (reads old answer)).reply
       → IsMachineReply reply
@@ -676,9 +748,9 @@ module _ (old : State) (reply : Reply) where
   read_reply None label key answer own e = ((λ f. cc), (λ f. cc), (λ f. cc))
   read_reply (Some b) label key answer own e = readable_reply (not (may_read label.caller b.acl)) _ (answered_reply (get b.objects key) answer own) e
 
-  delete_reply : (v : Option Bucket) (bucket key : List ℕ) → reply ≡ (in_bucket_by v old (deletes old bucket key)).reply → IsMachineReply reply
-  delete_reply None bucket key e = ((λ f. cc), (λ f. cc), (λ f. cc))
-  delete_reply (Some b) bucket key e = ((λ f. cc), (λ f. cc), (λ f. cc))
+  delete_reply : (v : Option Bucket) (bucket key : List ℕ) (only_if : OnlyIf) → reply ≡ (in_bucket_by v old (deletes old bucket key only_if)).reply → IsMachineReply reply
+  delete_reply None bucket key only_if e = ((λ f. cc), (λ f. cc), (λ f. cc))
+  delete_reply (Some b) bucket key only_if e = subst IsMachineReply (sym e) (held_reply old only_if key b (gives Gone (adjust bucket (drop_object key) old)) ((λ f. cc), (λ f. cc), (λ f. cc)))
 
 -- that of the deletion of many keys
 delete_all_reply : (old : State) (v : Option Bucket) (bucket : List ℕ) (keys : List (List ℕ)) (quiet : Bool) → IsMachineReply (in_bucket_by v old (deletes_all old bucket keys quiet)).reply
@@ -701,26 +773,28 @@ module _ (old : State) where
       in_bucket_has IsMachineReply v old (in_upload old key id f) ((λ f. cc), (λ f. cc), (λ f. cc))
       (λ b e. in_upload_has IsMachineReply (get b.uploads id) key old f ((λ f. cc), (λ f. cc), (λ f. cc)) (λ u e. own u))
 
-  refused_code : (code : Code) → (code ≡ NoSuchUpload) ⊎ ((code ≡ InvalidPartOrder) ⊎ ((code ≡ InvalidPart) ⊎ (code ≡ EntityTooSmall))) → IsMachineReply (Refused code)
+  refused_code : (code : Code) → (code ≡ NoSuchUpload) ⊎ ((code ≡ InvalidPartOrder) ⊎ ((code ≡ InvalidPart) ⊎ ((code ≡ EntityTooSmall) ⊎ ((code ≡ NoSuchKey) ⊎ (code ≡ fails_precondition))))) → IsMachineReply (Refused code)
   refused_code code (inl is) = ((λ f. cc), (λ f. cc), (λ f. cc))
   refused_code code (inr (inl is)) = ((λ f. cc), (λ f. cc), (λ f. cc))
   refused_code code (inr (inr (inl is))) = ((λ f. cc), (λ f. cc), (λ f. cc))
-  refused_code code (inr (inr (inr is))) = ((λ f. cc), (λ f. cc), (λ f. cc))
+  refused_code code (inr (inr (inr (inl is)))) = ((λ f. cc), (λ f. cc), (λ f. cc))
+  refused_code code (inr (inr (inr (inr is)))) = condition_reply code is
 
-  completes_reply : (v : Option Bucket) (settings : Settings) (bucket key id : List ℕ) (list : List Listed) (moment : ℕ) → IsMachineReply (in_bucket_by v old (completes settings old bucket key id list moment)).reply
-  completes_reply v settings bucket key id list moment =
-      in_bucket_has IsMachineReply v old (completes settings old bucket key id list moment) ((λ f. cc), (λ f. cc), (λ f. cc))
-      (λ b e. completes_has IsMachineReply (kept_as key list (get b.kept id)) settings old bucket key id list moment b refused_code (λ name etag. ((λ f. cc), (λ f. cc), (λ f. cc))))
+  completes_reply : (v : Option Bucket) (settings : Settings) (bucket key id : List ℕ) (list : List Listed) (only_if : OnlyIf) (moment : ℕ) → IsMachineReply (in_bucket_by v old (completes settings old bucket key id list only_if moment)).reply
+  completes_reply v settings bucket key id list only_if moment =
+      in_bucket_has IsMachineReply v old (completes settings old bucket key id list only_if moment) ((λ f. cc), (λ f. cc), (λ f. cc))
+      (λ b e. completes_has IsMachineReply (kept_as key list (get b.kept id)) settings old bucket key id list only_if moment b refused_code (λ name etag. ((λ f. cc), (λ f. cc), (λ f. cc))))
 
-  copies_reply : (v : Option Bucket) (bucket key : List ℕ) (acl : Option Acl) (from_bucket from_key : List ℕ) (replaced : Option Replaced) (conditions : Conditions) (moment : ℕ)
-      → IsMachineReply (in_bucket_by v old (copies old bucket key acl from_bucket from_key replaced conditions moment)).reply
-  copies_reply v bucket key acl from_bucket from_key replaced conditions moment =
-      in_bucket_has IsMachineReply v old (copies old bucket key acl from_bucket from_key replaced conditions moment) ((λ f. cc), (λ f. cc), (λ f. cc))
-      (λ b e. unless_has IsMachineReply (is_other_acl acl b.acl) NotImplemented old (in_source old from_bucket from_key conditions (copies_object old bucket key from_bucket from_key replaced moment) b) ((λ f. cc), (λ f. cc), (λ f. cc))
-      (in_source_has IsMachineReply old from_bucket from_key conditions (copies_object old bucket key from_bucket from_key replaced moment) b
+  copies_reply : (v : Option Bucket) (bucket key : List ℕ) (acl : Option Acl) (from_bucket from_key : List ℕ) (replaced : Option Described) (conditions : Conditions) (only_if : OnlyIf) (moment : ℕ)
+      → IsMachineReply (in_bucket_by v old (copies old bucket key acl from_bucket from_key replaced conditions only_if moment)).reply
+  copies_reply v bucket key acl from_bucket from_key replaced conditions only_if moment =
+      in_bucket_has IsMachineReply v old (copies old bucket key acl from_bucket from_key replaced conditions only_if moment) ((λ f. cc), (λ f. cc), (λ f. cc))
+      (λ b e. unless_has IsMachineReply (is_other_acl acl b.acl) NotImplemented old (in_source old from_bucket from_key conditions (copies_object old bucket key from_bucket from_key replaced (refusal_in only_if key b) moment) b) ((λ f. cc), (λ f. cc), (λ f. cc))
+      (in_source_has IsMachineReply old from_bucket from_key conditions (copies_object old bucket key from_bucket from_key replaced (refusal_in only_if key b) moment) b
       ((λ f. cc), (λ f. cc), (λ f. cc)) ((λ f. cc), (λ f. cc), (λ f. cc)) ((λ f. cc), (λ f. cc), (λ f. cc))
       (λ o. unless_has IsMachineReply (is_onto_itself bucket key from_bucket from_key replaced) InvalidRequest old
-      (gives (Copied false o.etag moment) (adjust bucket (put_object key (copied replaced moment o)) old)) ((λ f. cc), (λ f. cc), (λ f. cc)) ((λ f. cc), (λ f. cc), (λ f. cc)))))
+      (unless_refused (refusal_in only_if key b) old (gives (Copied false o.etag moment) (adjust bucket (put_object key (copied replaced moment o)) old))) ((λ f. cc), (λ f. cc), (λ f. cc))
+      (held_reply old only_if key b (gives (Copied false o.etag moment) (adjust bucket (put_object key (copied replaced moment o)) old)) ((λ f. cc), (λ f. cc), (λ f. cc))))))
 
   bytes_reply : (settings : Settings) (bucket id : List ℕ) (number : ℕ) (range : Option (ℕ × ℕ)) (moment : ℕ) (o : Object) → IsMachineReply (copies_bytes settings old bucket id number range moment o).reply
   bytes_reply settings bucket id number range moment o =
@@ -739,30 +813,39 @@ module _ (old : State) where
       ((λ f. cc), (λ f. cc), (λ f. cc)) ((λ f. cc), (λ f. cc), (λ f. cc)) ((λ f. cc), (λ f. cc), (λ f. cc))
       (bytes_reply settings bucket id number range moment)))
 
+objects_reply : (settings : Settings) (old : State) (op : ObjectsOp) (label : Label) (reply : Reply) (new : State) → S3Step settings old (OnObjects op) label reply new → IsMachineReply reply
+objects_reply settings old (objects_op.CreateBucket made) label reply new s = creates_reply (get old made.bucket) old made.bucket made.acl label.moment reply s.replies
+objects_reply settings old objects_op.ListBuckets label reply new s = listed_reply (bucket_items old) reply s.replies
+objects_reply settings old (objects_op.DeleteBucket bucket) label reply new s = drop_reply old reply (get old bucket) bucket s.replies
+objects_reply settings old (objects_op.HeadBucket bucket) label reply new s = show_reply old reply (get old bucket) label s.replies
+objects_reply settings old (objects_op.GetLocation bucket) label reply new s = locate_reply old reply (get old bucket) settings s.replies
+objects_reply settings old (objects_op.GetBucketAcl bucket) label reply new s = acl_reply old reply (get old bucket) s.replies
+objects_reply settings old (objects_op.PutBucketAcl set) label reply new s = set_reply old reply (get old set.bucket) set.bucket set.acl s.replies
+objects_reply settings old (objects_op.GetObjectAcl name) label reply new s = object_acl_reply old reply (get old name.bucket) name.key s.replies
+objects_reply settings old (objects_op.PutObject put) label reply new s = put_reply old reply (get old put.bucket) put.bucket put.key put.acl (new_object label.moment put.content.content_type put.content.meta put.content.body) put.only_if s.replies
+objects_reply settings old (objects_op.HeadObject read) label reply new s = read_reply old reply (get old read.bucket) label read.key (headed read.range read.conditions) (headed_reply read.range read.conditions) s.replies
+objects_reply settings old (objects_op.ListObjects list) label reply new s = list_reply old reply (get old list.bucket) label list.bucket list.asked s.replies
+objects_reply settings old (objects_op.DeleteObject deletion) label reply new s = delete_reply old reply (get old deletion.bucket) deletion.bucket deletion.key deletion.only_if s.replies
+objects_reply settings old (objects_op.DeleteObjects deletion) label reply new s = subst IsMachineReply (sym s.replies) (delete_all_reply old (get old deletion.bucket) deletion.bucket deletion.keys deletion.quiet)
+
+uploads_reply : (settings : Settings) (old : State) (op : UploadsOp) (label : Label) (reply : Reply) (new : State) → S3Step settings old (OnUploads op) label reply new → IsMachineReply reply
+uploads_reply settings old (uploads_op.ListUploads list) label reply new s = subst IsMachineReply (sym s.replies) (lists_uploads_reply old (get old list.bucket) list.bucket list.asked.prefix list.asked.key_marker list.asked.id_marker list.asked.max list.asked.url)
+uploads_reply settings old (uploads_op.CreateUpload start) label reply new s = subst IsMachineReply (sym s.replies) (starts_reply old (get old start.bucket) start.bucket start.key start.acl (new_upload start.key start.described.content_type start.described.meta label.moment) s.id)
+uploads_reply settings old (uploads_op.UploadPart part) label reply new s = subst IsMachineReply (sym s.replies) (upload_reply old (get old part.bucket) part.key part.id (puts_part old part.bucket part.id part.number (new_part label.moment part.body)) (λ u. ((λ f. cc), (λ f. cc), (λ f. cc))))
+uploads_reply settings old (uploads_op.ListParts list) label reply new s = subst IsMachineReply (sym s.replies) (upload_reply old (get old list.bucket) list.key list.id (lists_parts old list.bucket list.key list.id list.asked.marker list.asked.max) (λ u. ((λ f. cc), (λ f. cc), (λ f. cc))))
+uploads_reply settings old (uploads_op.CompleteUpload completion) label reply new s = subst IsMachineReply (sym s.replies) (completes_reply old (get old completion.bucket) settings completion.bucket completion.key completion.id completion.list completion.only_if label.moment)
+uploads_reply settings old (uploads_op.AbortUpload upload) label reply new s = subst IsMachineReply (sym s.replies) (upload_reply old (get old upload.bucket) upload.key upload.id (aborts old upload.bucket upload.id) (λ u. ((λ f. cc), (λ f. cc), (λ f. cc))))
+
+copies_op_reply : (settings : Settings) (old : State) (op : CopiesOp) (label : Label) (reply : Reply) (new : State) → S3Step settings old (OnCopies op) label reply new → IsMachineReply reply
+copies_op_reply settings old (copies_op.CopyObject copy) label reply new s =
+    subst IsMachineReply (sym s.replies) (copies_reply old (get old copy.bucket) copy.bucket copy.key copy.acl copy.from_bucket copy.from_key copy.replaced copy.conditions copy.only_if label.moment)
+copies_op_reply settings old (copies_op.CopyPart copy) label reply new s =
+    subst IsMachineReply (sym s.replies) (copies_part_reply old settings (get old copy.bucket) copy.bucket copy.key copy.id copy.number copy.from_bucket copy.from_key copy.range copy.conditions label.moment)
+
 -- the machine itself never gives the reply of wanting memory, nor the two codes of the store below it
 pub machine_reply : (settings : Settings) (old : State) (op : Op) (label : Label) (reply : Reply) (new : State) → S3Step settings old op label reply new
     → (reply ≢ Memory) × (reply ≢ Refused ServiceUnavailable) × (reply ≢ Refused InconsistentStore)
-machine_reply settings old (CreateBucket bucket acl) label reply new s = creates_reply (get old bucket) old bucket acl label.moment reply s.replies
-machine_reply settings old ListBuckets label reply new s = listed_reply (bucket_items old) reply s.replies
-machine_reply settings old (DeleteBucket bucket) label reply new s = drop_reply old reply (get old bucket) bucket s.replies
-machine_reply settings old (HeadBucket bucket) label reply new s = show_reply old reply (get old bucket) label s.replies
-machine_reply settings old (GetLocation bucket) label reply new s = locate_reply old reply (get old bucket) settings s.replies
-machine_reply settings old (GetBucketAcl bucket) label reply new s = acl_reply old reply (get old bucket) s.replies
-machine_reply settings old (PutBucketAcl bucket acl) label reply new s = set_reply old reply (get old bucket) bucket acl s.replies
-machine_reply settings old (GetObjectAcl bucket key) label reply new s = object_acl_reply old reply (get old bucket) key s.replies
-machine_reply settings old (PutObject bucket key acl content_type meta body) label reply new s = put_reply old reply (get old bucket) bucket key acl (new_object label.moment content_type meta body) s.replies
-machine_reply settings old (GetObject bucket key range conditions) label reply new s = read_reply old reply (get old bucket) label key (got range conditions) (got_reply range conditions) s.replies
-machine_reply settings old (HeadObject bucket key range conditions) label reply new s = read_reply old reply (get old bucket) label key (headed range conditions) (headed_reply range conditions) s.replies
-machine_reply settings old (ListObjects bucket asked) label reply new s = list_reply old reply (get old bucket) label bucket asked s.replies
-machine_reply settings old (DeleteObject bucket key) label reply new s = delete_reply old reply (get old bucket) bucket key s.replies
-machine_reply settings old (ListUploads bucket prefix key_marker id_marker max url) label reply new s = subst IsMachineReply (sym s.replies) (lists_uploads_reply old (get old bucket) bucket prefix key_marker id_marker max url)
-machine_reply settings old (CreateUpload bucket key acl content_type meta) label reply new s = subst IsMachineReply (sym s.replies) (starts_reply old (get old bucket) bucket key acl (new_upload key content_type meta label.moment) s.id)
-machine_reply settings old (UploadPart bucket key id number body) label reply new s = subst IsMachineReply (sym s.replies) (upload_reply old (get old bucket) key id (puts_part old bucket id number (new_part label.moment body)) (λ u. ((λ f. cc), (λ f. cc), (λ f. cc))))
-machine_reply settings old (ListParts bucket key id marker max) label reply new s = subst IsMachineReply (sym s.replies) (upload_reply old (get old bucket) key id (lists_parts old bucket key id marker max) (λ u. ((λ f. cc), (λ f. cc), (λ f. cc))))
-machine_reply settings old (CompleteUpload bucket key id list) label reply new s = subst IsMachineReply (sym s.replies) (completes_reply old (get old bucket) settings bucket key id list label.moment)
-machine_reply settings old (AbortUpload bucket key id) label reply new s = subst IsMachineReply (sym s.replies) (upload_reply old (get old bucket) key id (aborts old bucket id) (λ u. ((λ f. cc), (λ f. cc), (λ f. cc))))
-machine_reply settings old (DeleteObjects bucket keys quiet) label reply new s = subst IsMachineReply (sym s.replies) (delete_all_reply old (get old bucket) bucket keys quiet)
-machine_reply settings old (CopyObject bucket key acl from_bucket from_key replaced conditions) label reply new s =
-    subst IsMachineReply (sym s.replies) (copies_reply old (get old bucket) bucket key acl from_bucket from_key replaced conditions label.moment)
-machine_reply settings old (CopyPart bucket key id number from_bucket from_key range conditions) label reply new s =
-    subst IsMachineReply (sym s.replies) (copies_part_reply old settings (get old bucket) bucket key id number from_bucket from_key range conditions label.moment)
+machine_reply settings old (op_as.GetObject read) label reply new s = read_reply old reply (get old read.bucket) label read.key (got read.range read.conditions) (got_reply read.range read.conditions) s.replies
+machine_reply settings old (OnObjects op) label reply new s = objects_reply settings old op label reply new s
+machine_reply settings old (OnUploads op) label reply new s = uploads_reply settings old op label reply new s
+machine_reply settings old (OnCopies op) label reply new s = copies_op_reply settings old op label reply new s

@@ -77,7 +77,7 @@ from_at headers (suc most) i (piece ∷ pieces) few at =
     ∙ ap (λ rest. option_map (λ others. piece ∷ others) rest) (from_at headers most (i + 1) pieces (omega (arith, few)) at.1)
 
 -- the fields are some of other names, then pieces of lower indexes, then these, then others of other names
-abbrev Others : List Header → Type 0
+abbrev pub Others : List Header → Type 0
 Others fields = (i : ℕ) → given (meta_name i) fields ≡ []
 
 at_all : (front back : List Header) (i : ℕ) (pieces : List (List ℕ)) → Others back → i + length pieces < 2 ^ 63 → ((j : ℕ) → i ≤ j → j < 2 ^ 64 → given (meta_name j) front ≡ [])

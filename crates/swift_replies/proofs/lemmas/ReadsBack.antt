@@ -1,7 +1,9 @@
 -- What is written for a reply is read back.
-use Rattle.std.proofs.Common.{None, Some, refl}
+use Rattle.std.proofs.Common.{◌≡◌, Bool, true, false, None, Some, refl, ap}
+use Rattle.std.specs.Prelude.{is_some}
 use Rattle.std.proofs.lemmas.Bool.{false≢true}
 use Rattle.slo_manifest.specs.Laws.{TextReadsBack}
+use Rattle.swift_calls.specs.declared.calls.FilePut.{FilePut}
 use Rattle.swift_calls.specs.declared.calls.SwiftRequest.TheVariants.{
   ListContainers,
   HeadContainer,
@@ -22,6 +24,7 @@ use Rattle.swift_calls.specs.declared.calls.SwiftReply.TheVariants.{
   Gone,
   Stored,
   NotFound,
+  Exists,
   NotEmpty,
   BadManifest,
   Unsatisfiable,
@@ -33,12 +36,22 @@ use Rattle.swift_calls.specs.declared.calls.SwiftReply.TheVariants.{
   Manifest,
 }
 use Rattle.swift_replies.specs.AnswerLaws.{ReadsBack}
+use Rattle.swift_replies.specs.AnswerText.{exists_sent, text_by}
+use Rattle.swift_replies.specs.Answers.{SpellsAnswer, exists_reply}
 use Rattle.swift_replies.proofs.lemmas.BareRows.{bare_spells, gone_spells, missing_spells}
 use Rattle.swift_replies.proofs.lemmas.HeadRows.{bytes_read_back, head_reads_back}
 use Rattle.swift_replies.proofs.lemmas.ListRows.{containers_read_back, names_read_back}
 use Rattle.swift_replies.proofs.lemmas.ReadersRow.{readers_reads_back}
 use Rattle.swift_replies.proofs.lemmas.SegmentRows.{segments_read_back}
 use Rattle.swift_replies.proofs.lemmas.ValueRows.{stored_reads_back, listed_reads_back}
+
+-- that an object is there under the name of a fresh one
+exists_reads_back : (put : FilePut) → is_some (exists_sent put.fresh) ≡ true → SpellsAnswer (PutObject put) Exists (text_by (exists_sent put.fresh))
+exists_reads_back put spelled = by put.fresh refl spelled
+  where
+    by : (fresh : Bool) → put.fresh ≡ fresh → is_some (exists_sent fresh) ≡ true → SpellsAnswer (PutObject put) Exists (text_by (exists_sent fresh))
+    by true is spelled = bare_spells (PutObject put) Exists 412 refl refl (ap exists_reply is)
+    by false is spelled = absurd (false≢true spelled)
 
 pub reads_back : TextReadsBack → ReadsBack
 reads_back law (ListContainers marker limit) (Containers names) spelled within = containers_read_back marker limit names spelled within
@@ -59,9 +72,10 @@ reads_back law (DeleteContainer container) reply spelled within = absurd (false�
 reads_back law (ListNames container prefix marker limit) (Names items) spelled within = names_read_back container prefix marker limit items spelled within
 reads_back law (ListNames container prefix marker limit) NotFound spelled within = missing_spells (ListNames container prefix marker limit) refl
 reads_back law (ListNames container prefix marker limit) reply spelled within = absurd (false≢true spelled)
-reads_back law (PutObject container name content_type meta body) (Stored etag) spelled within = stored_reads_back container name content_type meta body etag spelled
-reads_back law (PutObject container name content_type meta body) NotFound spelled within = missing_spells (PutObject container name content_type meta body) refl
-reads_back law (PutObject container name content_type meta body) reply spelled within = absurd (false≢true spelled)
+reads_back law (PutObject put) (Stored etag) spelled within = stored_reads_back put etag spelled
+reads_back law (PutObject put) NotFound spelled within = missing_spells (PutObject put) refl
+reads_back law (PutObject put) Exists spelled within = exists_reads_back put spelled
+reads_back law (PutObject put) reply spelled within = absurd (false≢true spelled)
 reads_back law (PutManifest container name content_type meta segments) (Stored etag) spelled within = listed_reads_back container name content_type meta segments etag spelled
 reads_back law (PutManifest container name content_type meta segments) NotFound spelled within = missing_spells (PutManifest container name content_type meta segments) refl
 reads_back law (PutManifest container name content_type meta segments) BadManifest spelled within = bare_spells (PutManifest container name content_type meta segments) BadManifest 400 refl refl refl

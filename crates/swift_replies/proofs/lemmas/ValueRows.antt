@@ -10,6 +10,7 @@ use Rattle.httparse.specs.Grammar.{AllPass, is_ows, is_value_byte, is_token_byte
 use Rattle.httparse.proofs.TrimLemmas.{AllPass-reverse}
 use Rattle.http1.specs.Head.{are_headers, is_trimmed_value, starts_visible}
 use Rattle.slo_manifest.specs.declared.Segment.{Segment}
+use Rattle.swift_calls.specs.declared.calls.FilePut.{FilePut}
 use Rattle.swift_calls.specs.declared.calls.SwiftRequest.{SwiftRequest}
 use Rattle.swift_calls.specs.declared.calls.SwiftRequest.TheVariants.{PutObject, PutManifest}
 use Rattle.swift_calls.specs.declared.calls.SwiftReply.TheVariants.{Stored}
@@ -119,10 +120,10 @@ stored_by_call call etag asks gives some = by_tag (is_tag etag) refl some
         limit_of (stored_by etag) (SpellsAnswer call (Stored etag)) some (stored_spells call etag asks (gives fine) fine)
     by_tag false other some = absurd (false≢true some)
 
-pub stored_reads_back : (container name content_type : List ℕ) (meta : List (List ℕ)) (body etag : List ℕ) → is_some (stored_sent etag) ≡ true
-    → SpellsAnswer (PutObject container name content_type meta body) (Stored etag) (text_by (stored_sent etag))
-stored_reads_back container name content_type meta body etag some =
-    stored_by_call (PutObject container name content_type meta body) etag refl (λ fine. ap (option_map (λ v. Stored v)) (tag_back etag fine)) some
+pub stored_reads_back : (put : FilePut) (etag : List ℕ) → is_some (stored_sent etag) ≡ true
+    → SpellsAnswer (PutObject put) (Stored etag) (text_by (stored_sent etag))
+stored_reads_back put etag some =
+    stored_by_call (PutObject put) etag refl (λ fine. ap (option_map (λ v. Stored v)) (tag_back etag fine)) some
 
 pub listed_reads_back : (container name content_type : List ℕ) (meta : List (List ℕ)) (segments : List Segment) (etag : List ℕ) → is_some (stored_sent etag) ≡ true
     → SpellsAnswer (PutManifest container name content_type meta segments) (Stored etag) (text_by (stored_sent etag))

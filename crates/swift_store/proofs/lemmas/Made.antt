@@ -5,7 +5,7 @@ use Rattle.swift_calls.specs.Account.{SwiftAccount, SwiftContainer, SwiftObject,
 use Rattle.std.proofs.Common.{refl}
 use Rattle.slo_manifest.specs.declared.Segment.{Segment}
 use Rattle.swift_calls.specs.Bodies.{is_good_list}
-use Rattle.swift_calls.specs.Step.{Fit, put_listed, put_manifest, IsContainerName, IsMoment, is_bare, head_container, put_container, post_container, delete_by, delete_container, put_object, delete_object}
+use Rattle.swift_calls.specs.Step.{Fit, is_taken, plain_file, put_listed, put_manifest, IsContainerName, IsMoment, is_bare, head_container, put_container, post_container, delete_by, delete_container, put_object, delete_object}
 use Rattle.swift_calls.specs.declared.account.ReadList.{ReadList}
 use Rattle.swift_calls.specs.declared.account.Content.TheVariants.{Plain, Segments}
 use Rattle.swift_calls.specs.declared.calls.SwiftRequest.TheVariants.{
@@ -22,11 +22,12 @@ use Rattle.swift_calls.specs.declared.calls.SwiftRequest.TheVariants.{
   GetManifest,
   DeleteObject,
 }
+use Rattle.swift_calls.proofs.lemmas.Files.{put_unless_by}
 use Rattle.swift_store.specs.Made.{IsMade, IsMadeObject}
 use Rattle.swift_store.specs.MadeLaws.{HasSpelling, StaysMade}
 use Rattle.swift_store.proofs.MadeChanges.{made_head, made_readers, made_new, made_removed, made_put, made_taken}
 use Rattle.swift_store.proofs.Writing.{good_made, put_made}
-use Rattle.swift_store.proofs.MadeReplies.{containers_row, names_row, readers_row, head_row, get_row, put_row, post_row, delete_row, stored_row, list_row, manifest_row, remove_row}
+use Rattle.swift_store.proofs.MadeReplies.{containers_row, names_row, readers_row, head_row, get_row, put_row, post_row, delete_row, unless_row, list_row, manifest_row, remove_row}
 
 -- ---- what each call leaves
 
@@ -76,9 +77,10 @@ stays_made (PutContainer c readers created) account fit made = after_put account
 stays_made (PostContainer c readers) account fit made = after_post account made (get account c) c readers
 stays_made (DeleteContainer c) account fit made = after_delete account made (get account c) c
 stays_made (ListNames c prefix marker limit) account fit made = made
-stays_made (PutObject c n content_type meta body) account fit made =
-    after_stored account made (get account c) c n (record { content_type = content_type; meta = meta; content = Plain body })
-    (put_made c n content_type meta body fit)
+stays_made (PutObject put) account fit made =
+    put_unless_by (λ a. IsMade a.tree) (is_taken put.fresh (find_object account put.container put.name))
+    (put_object (get account put.container) put.container put.name (plain_file put) account) account
+    (λ free. after_stored account made (get account put.container) put.container put.name (plain_file put) (put_made put fit)) (λ taken. made)
 stays_made (PutManifest c n content_type meta segments) account fit made = after_manifest account made (get account c) c n content_type meta segments fit
 stays_made (HeadObject c n) account fit made = made
 stays_made (GetObject c n range) account fit made = made
@@ -92,7 +94,7 @@ has_spelling (PutContainer c readers created) account fit made = put_row (get ac
 has_spelling (PostContainer c readers) account fit made = post_row (get account c) c readers account
 has_spelling (DeleteContainer c) account fit made = delete_row (get account c) c account
 has_spelling (ListNames c prefix marker limit) account fit made = names_row account made c limit prefix marker
-has_spelling (PutObject c n content_type meta body) account fit made = stored_row (get account c) c n content_type meta body account
+has_spelling (PutObject put) account fit made = unless_row put.fresh (find_object account put.container put.name) (get account put.container) put account
 has_spelling (PutManifest c n content_type meta segments) account fit made = list_row (get account c) c n content_type meta segments account
 has_spelling (HeadObject c n) account fit made = head_row account made c n
 has_spelling (GetObject c n range) account fit made = get_row account made c n range fit.2

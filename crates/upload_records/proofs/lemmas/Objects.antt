@@ -10,7 +10,8 @@ use Rattle.s3_names.specs.Id.{id_digits}
 use Rattle.s3_names.specs.Key.{is_key}
 use Rattle.s3_machine.specs.State.{Object}
 use Rattle.s3_machine.specs.Step.{put_object, drop_object}
-use Rattle.swift_calls.specs.declared.calls.SwiftRequest.TheVariants.{PutObject, DeleteObject}
+use Rattle.swift_calls.specs.Files.{PutObject}
+use Rattle.swift_calls.specs.declared.calls.SwiftRequest.TheVariants.{DeleteObject}
 use Rattle.swift_calls.specs.Account.{SwiftObject, SwiftContainer, SwiftAccount, files, files_of, find_object, on_files, put_file, remove_file}
 use Rattle.swift_calls.specs.Bodies.{bytes_of, is_list}
 use Rattle.swift_calls.specs.Step as store

@@ -5,7 +5,8 @@ use Rattle.std.proofs.Common.{refl}
 use Rattle.gate_base.proofs.lemmas.Maps.{by_name, off_insert, off_adjust, off_remove}
 use Rattle.s3_names.specs.Bucket.{is_bucket}
 use Rattle.swift_calls.specs.declared.account.ReadList.{ReadList}
-use Rattle.swift_calls.specs.declared.calls.SwiftRequest.TheVariants.{PutContainer, PostContainer, DeleteContainer, PutObject, DeleteObject}
+use Rattle.swift_calls.specs.Files.{PutObject}
+use Rattle.swift_calls.specs.declared.calls.SwiftRequest.TheVariants.{PutContainer, PostContainer, DeleteContainer, DeleteObject}
 use Rattle.swift_calls.specs.Account.{SwiftObject, SwiftContainer, SwiftAccount, find_object, on_files, with_head, with_readers}
 use Rattle.swift_calls.specs.Step.{swift_step, is_bare, put_container, post_container, delete_by, delete_container, put_object, delete_object}
 use Rattle.upload_records.specs.Native.{SameGateway}

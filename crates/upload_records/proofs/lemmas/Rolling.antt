@@ -9,7 +9,8 @@ use Rattle.s3_names.specs.Id.{id_digits}
 use Rattle.slo_manifest.specs.declared.Segment.{Segment}
 use Rattle.swift_calls.specs.declared.account.Content.TheVariants.{Plain}
 use Rattle.swift_calls.specs.declared.calls.SwiftReply.TheVariants.{NotFound, Bytes}
-use Rattle.swift_calls.specs.declared.calls.SwiftRequest.TheVariants.{PutObject, GetObject, DeleteObject}
+use Rattle.swift_calls.specs.Files.{PutObject}
+use Rattle.swift_calls.specs.declared.calls.SwiftRequest.TheVariants.{GetObject, DeleteObject}
 use Rattle.swift_calls.specs.declared.heads.StoredHead.{StoredHead}
 use Rattle.swift_calls.specs.Account.{SwiftObject, SwiftAccount, files, files_of, find_object, put_file, remove_file}
 use Rattle.swift_calls.specs.Bodies.{bytes_of, etag_text, head_of, is_list, is_segment, plain_bytes}
@@ -25,6 +26,7 @@ use Rattle.upload_records.proofs.Completed as completed
 use Rattle.upload_records.proofs.Parts as parts
 use Rattle.upload_records.proofs.Rolls as rolls
 use Rattle.upload_records.proofs.SubRolls as subs
+use Rattle.upload_records.proofs.lemmas.GatewayFiles.{sealed_file}
 use Rattle.upload_records.proofs.lemmas.Objects.{put_leaves, delete_leaves}
 use Rattle.upload_records.proofs.lemmas.SealedTexts.{sealed_has}
 use Rattle.upload_records.proofs.lemmas.Settled.{unsealed_by}
@@ -56,7 +58,7 @@ seal_found tree o e = ap seal_by e
 told_by : (tree : SwiftAccount) (o : Option SwiftObject) → find_object tree gateway_name sealed_name ≡ o → IsConsistent tree → TellsNone tree ⊎ ((s : Sealed) × TellsSeal tree s)
 told_by tree None e sound = inl (record { reply = ap (get_reply (find_object tree) None) e; none = seal_found tree None e })
 told_by tree (Some file) e sound =
-    let kept = sound.gateway sealed_name file e in
+    let kept = sealed_file file (sound.gateway sealed_name file e) in
     inr (
       kept.is,
       record {

@@ -1,4 +1,4 @@
-use Rattle.std.proofs.Common.{◌-◌}
+use Rattle.std.proofs.Common.{◌-◌, ℕ, List}
 use Rattle.swift_calls.specs.History.{budget}
 use Rattle.swift_calls.specs.Limits.{IsMarker}
 use Rattle.account_calls.specs.Lent.{Stays}
@@ -12,5 +12,5 @@ abbrev pub invariant-pages : goal.invariant-pages
 invariant-pages g l = record {
   stays : Stays l.initial.state l.state;
   is_marker : IsMarker l.marker;
-  purging : Purging (g.W.Swift.history l.initial.state.store.now) (g.W.Swift.history l.state.store.now) l.folder l.bucket l.prefix l.marker;
+  purging : (bucket : List ℕ) → Purging (g.W.Swift.history l.initial.state.store.now) (g.W.Swift.history l.state.store.now) l.folder bucket l.prefix l.marker;
 }

@@ -8,7 +8,7 @@ pub returns-in_err-copy-clause-asks : goal.returns-in_err-copy-clause-asks
 returns-in_err-copy-clause-asks g c = not_asked _ _ _ c.from_residual.ensures.1
 
 pub returns-in_err-reply-clause-asks : goal.returns-in_err-reply-clause-asks
-returns-in_err-reply-clause-asks g c = quiet_in_vain (makes_side c.in_ok-copy.ensures c.requires) c.in_err-reply.ensures _ c.from_residual-in_err-reply.ensures.1
+returns-in_err-reply-clause-asks g c = quiet_in_vain (makes_side c.in_ok-copy.ensures c.requires.1) c.in_err-reply.ensures _ c.from_residual-in_err-reply.ensures.1
 
 pub returns-clause-asks : goal.returns-clause-asks
-returns-clause-asks g c = quieted (makes_side c.in_ok-copy.ensures c.requires) c.in_ok-reply.ensures _ (inr c.interpret_container_put.ensures.due) c.interpret_container_put.ensures.own
+returns-clause-asks g c = quieted (makes_side c.in_ok-copy.ensures c.requires.1) c.in_ok-reply.ensures _ (inr c.interpret_container_put.ensures.due) c.interpret_container_put.ensures.own

@@ -4,7 +4,7 @@ use Rattle.account_calls.proofs.lemmas.One.{sent_in_vain, sent}
 use Rattle.account_calls.proofs.bucket.post_bucket_container.Goals as goal
 
 pub returns-in_err-reply-clause-changes : goal.returns-in_err-reply-clause-changes
-returns-in_err-reply-clause-changes g c = sent_in_vain (sets c.args.acl refl c.container_readers_of_acl.ensures c.requires) c.in_err-reply.ensures _ c.from_residual.ensures.1
+returns-in_err-reply-clause-changes g c = sent_in_vain (sets c.args.acl c.into_text.ensures.value c.container_readers_of_acl.ensures c.into_text.ensures.fit) c.in_err-reply.ensures _ c.from_residual.ensures.1
 
 pub returns-clause-changes : goal.returns-clause-changes
-returns-clause-changes g c = sent (sets c.args.acl refl c.container_readers_of_acl.ensures c.requires) c.in_ok-reply.ensures _ c.interpret_bucket_post.ensures.due c.interpret_bucket_post.ensures.own
+returns-clause-changes g c = sent (sets c.args.acl c.into_text.ensures.value c.container_readers_of_acl.ensures c.into_text.ensures.fit) c.in_ok-reply.ensures _ c.interpret_bucket_post.ensures.due c.interpret_bucket_post.ensures.own

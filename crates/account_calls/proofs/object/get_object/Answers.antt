@@ -7,13 +7,14 @@ use Rattle.account_calls.proofs.lemmas.Counted.{counted, not_counted}
 use Rattle.account_calls.proofs.object.get_object.Goals as goal
 
 pub returns-in_err-reply-clause-asks : goal.returns-in_err-reply-clause-asks
-returns-in_err-reply-clause-asks g c = asked_in_vain (get_reads refl refl c.requires.name) c.in_err-reply.ensures _ c.from_residual.ensures.1
+returns-in_err-reply-clause-asks g c = asked_in_vain (get_reads c.into_text.ensures.value c.into_text-2.ensures.value c.into_text.ensures.fit) c.in_err-reply.ensures _ c.from_residual.ensures.1
 
 pub returns-clause-asks : goal.returns-clause-asks
-returns-clause-asks g c = asked (get_reads refl refl c.requires.name) c.in_ok-reply.ensures _ c.bytes_in.ensures.due c.bytes_in.ensures.own
+returns-clause-asks g c = asked (get_reads c.into_text.ensures.value c.into_text-2.ensures.value c.into_text.ensures.fit) c.in_ok-reply.ensures _ c.bytes_in.ensures.due c.bytes_in.ensures.own
 
 pub returns-clause-unchanged : goal.returns-clause-unchanged
-returns-clause-unchanged g c = gives_unchanged c.args.etag.now c.args.size c.in_ok-reply.ensures _ c.bytes_in.ensures.due
+returns-clause-unchanged g c =
+    rw (c.into_text.ensures.value, c.into_text-2.ensures.value) at (gives_unchanged c.args.etag.now c.args.size c.in_ok-reply.ensures _ c.bytes_in.ensures.due)
 
 pub returns-in_err-reply-clause-counts : goal.returns-in_err-reply-clause-counts
 returns-in_err-reply-clause-counts g c = not_counted c.in_err-reply.ensures _ c.from_residual.ensures.1

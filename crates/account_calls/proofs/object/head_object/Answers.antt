@@ -11,10 +11,10 @@ pub returns-in_err-name-clause-asks : goal.returns-in_err-name-clause-asks
 returns-in_err-name-clause-asks g c = not_asked _ _ _ c.from_residual-in_err-name.ensures.1
 
 pub returns-in_err-reply-clause-asks : goal.returns-in_err-reply-clause-asks
-returns-in_err-reply-clause-asks g c = asked_in_vain (head_reads c.in_ok-container.ensures c.in_ok-name.ensures c.requires.name) c.in_err-reply.ensures _ c.from_residual-in_err-reply.ensures.1
+returns-in_err-reply-clause-asks g c = asked_in_vain (head_reads c.in_ok-container.ensures.value c.in_ok-name.ensures.value c.in_ok-container.ensures.fit) c.in_err-reply.ensures _ c.from_residual-in_err-reply.ensures.1
 
 pub returns-clause-asks : goal.returns-clause-asks
-returns-clause-asks g c = asked (head_reads c.in_ok-container.ensures c.in_ok-name.ensures c.requires.name) c.in_ok-reply.ensures _ c.interpret_object_head.ensures.due c.interpret_object_head.ensures.own
+returns-clause-asks g c = asked (head_reads c.in_ok-container.ensures.value c.in_ok-name.ensures.value c.in_ok-container.ensures.fit) c.in_ok-reply.ensures _ c.interpret_object_head.ensures.due c.interpret_object_head.ensures.own
 
 pub returns-in_err-container-clause-leaves : goal.returns-in_err-container-clause-leaves
 returns-in_err-container-clause-leaves g c = λ observable. refl

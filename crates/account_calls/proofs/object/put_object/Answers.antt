@@ -12,22 +12,22 @@ pub returns-in_err-reply-clause-changes : goal.returns-in_err-reply-clause-chang
 returns-in_err-reply-clause-changes g c =
     sent_in_vain (puts (record {
       same = c.in_ok-request.ensures.request;
-      is = c.requires.name;
-      keyed = c.requires.key;
-      content = c.requires.content;
+      is = c.in_ok-request.ensures.named.named;
+      keyed = c.in_ok-request.ensures.named.keyed;
+      content = c.in_ok-request.ensures.content;
       ascend = c.in_ok-request.ensures.ordered;
-      below = c.requires.moment;
+      below = c.args.label.now.timed;
     })) c.in_err-reply.ensures _ c.from_residual-in_err-reply.ensures.1
 
 pub returns-clause-changes : goal.returns-clause-changes
 returns-clause-changes g c =
     sent (puts (record {
       same = c.in_ok-request.ensures.request;
-      is = c.requires.name;
-      keyed = c.requires.key;
-      content = c.requires.content;
+      is = c.in_ok-request.ensures.named.named;
+      keyed = c.in_ok-request.ensures.named.keyed;
+      content = c.in_ok-request.ensures.content;
       ascend = c.in_ok-request.ensures.ordered;
-      below = c.requires.moment;
+      below = c.args.label.now.timed;
     })) c.in_ok-reply.ensures _
     (c.interpret_put_with_etag.ensures.due ∙ ap (λ etag. stored_due etag c.in_ok-reply.reply) c.requires.etag) c.interpret_put_with_etag.ensures.own
 

@@ -1,21 +1,32 @@
-use Rattle.std.proofs.Common.{sym, ap, ◌∙◌}
-use Rattle.account_calls.specs.Answers.{plans_many, plans_uploads}
-use Rattle.gateway.proofs.Operating.{performs_or_finds, reads_no_upload, reads_no_many}
-use Rattle.gateway.proofs.Bodiless.{many_bodiless, upload_bodiless}
+use Rattle.s3_machine.specs.declared.operation.Op.TheVariants as op_as
+use Rattle.gateway.proofs.Operating.{copies_read_none, objects_read_none, performs_or_finds, uploads_read_none}
+use Rattle.gateway.proofs.Bodiless.{copy_bodiless, upload_bodiless}
 use Rattle.gateway.proofs.reply.perform.Goals as goal
 
-pub returns-in-One-clause-performs : goal.returns-in-One-clause-performs
-returns-in-One-clause-performs g c =
-    performs_or_finds (g.W.Swift.history c.args.state.now.store.now) (g.W.Swift.history c.answer.new.state.store.now) c.args.state.now.settings.now c.args.op c.args.label.now c.answer.result c.answer.ensures.answered
+pub returns-in-GetObject-clause-performs : goal.returns-in-GetObject-clause-performs
+returns-in-GetObject-clause-performs g c = rw c.in-GetObject.is
+    (performs_or_finds (g.W.Swift.history c.args.state.now.store.now) (g.W.Swift.history c.find_object.new.state.store.now) c.args.state.now.settings.now (op_as.GetObject c.in-GetObject.read) c.args.label.now c.find_object.result c.find_object.ensures.answered)
 
-pub returns-in-Uploads-clause-leaves : goal.returns-in-Uploads-clause-leaves
-returns-in-Uploads-clause-leaves g c = λ reads. absurd (reads_no_upload c.args.op reads (ap plans_uploads (sym c.plans_of.ensures ∙ c.in-Uploads.is)))
+pub returns-in-OnObjects-clause-performs : goal.returns-in-OnObjects-clause-performs
+returns-in-OnObjects-clause-performs g c = rw c.in-OnObjects.is c.answer.ensures.answered
 
-pub returns-in-Many-clause-leaves : goal.returns-in-Many-clause-leaves
-returns-in-Many-clause-leaves g c = λ reads. absurd (reads_no_many c.args.op reads (ap plans_many (sym c.plans_of.ensures ∙ c.in-Many.is)))
+pub returns-in-OnUploads-clause-performs : goal.returns-in-OnUploads-clause-performs
+returns-in-OnUploads-clause-performs g c = rw c.in-OnUploads.is c.answer-replied.ensures.answered
 
-pub returns-in-Uploads-clause-bodiless : goal.returns-in-Uploads-clause-bodiless
-returns-in-Uploads-clause-bodiless g c = upload_bodiless _ c.answer-replied.ensures.kind
+pub returns-in-OnCopies-clause-performs : goal.returns-in-OnCopies-clause-performs
+returns-in-OnCopies-clause-performs g c = rw c.in-OnCopies.is c.answer-in-OnCopies.ensures.answered
 
-pub returns-in-Many-clause-bodiless : goal.returns-in-Many-clause-bodiless
-returns-in-Many-clause-bodiless g c = many_bodiless _ c.answer-in-Many.ensures.kind
+pub returns-in-OnObjects-clause-leaves : goal.returns-in-OnObjects-clause-leaves
+returns-in-OnObjects-clause-leaves g c = λ reads. absurd (objects_read_none c.in-OnObjects.is reads)
+
+pub returns-in-OnUploads-clause-leaves : goal.returns-in-OnUploads-clause-leaves
+returns-in-OnUploads-clause-leaves g c = λ reads. absurd (uploads_read_none c.in-OnUploads.is reads)
+
+pub returns-in-OnCopies-clause-leaves : goal.returns-in-OnCopies-clause-leaves
+returns-in-OnCopies-clause-leaves g c = λ reads. absurd (copies_read_none c.in-OnCopies.is reads)
+
+pub returns-in-OnUploads-clause-bodiless : goal.returns-in-OnUploads-clause-bodiless
+returns-in-OnUploads-clause-bodiless g c = upload_bodiless _ c.answer-replied.ensures.kind
+
+pub returns-in-OnCopies-clause-bodiless : goal.returns-in-OnCopies-clause-bodiless
+returns-in-OnCopies-clause-bodiless g c = copy_bodiless _ c.answer-in-OnCopies.ensures.kind

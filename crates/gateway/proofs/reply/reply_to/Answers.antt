@@ -1,7 +1,6 @@
 use Rattle.std.proofs.Common.{subst, refl}
 use Rattle.account_calls.proofs.lemmas.Idle.{goes_none}
 use Rattle.gateway.specs.ResolvedRequest.{Understands}
-use Rattle.s3_requests.specs.Proper.{IsProperMeant}
 use Rattle.gateway.proofs.Operating.{ready_of, asks_reads}
 use Rattle.gateway.proofs.Replying.{code_meant, replied_by, replied_refused, replied_memory, stands_still}
 use Rattle.gateway.proofs.reply.reply_to.Goals as goal
@@ -20,7 +19,8 @@ returns-in-Refused-clause-replied g c = record {
   out_of_memory = λ is. (let same = c.in-Refused.is in cc);
   stands = stands_still c.args.settings.now c.args.known.now (g.W.Swift.history c.args.store.now);
   effect = λ all met request understands from.
-      replied_refused _ _ _ request _ all c.in-Refused.code (code_meant request _ c.in-Refused.code c.in-Refused.is understands) (subst IsProperMeant c.in-Refused.is c.requires.proper) met;
+      rw c.into_value.ensures.value
+      (replied_refused _ _ _ request _ all c.in-Refused.code (code_meant request _ c.in-Refused.code c.in-Refused.is understands) c.into_value.ensures.fit met);
 }
 
 pub returns-in-Memory-clause-replied : goal.returns-in-Memory-clause-replied

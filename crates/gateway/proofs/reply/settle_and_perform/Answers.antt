@@ -7,15 +7,15 @@ use Rattle.gateway.proofs.reply.settle_and_perform.Goals as goal
 pub returns-in-Err-clause-operated : goal.returns-in-Err-clause-operated
 returns-in-Err-clause-operated g c = operated_unsettled c.in-Err.fault c.in-Unsure.is c.unsettled.ensures c.in-Err.ensures
 
-pub perform_on_settled_store-answer-requires-clause-settled : goal.perform_on_settled_store-answer-requires-clause-settled
-perform_on_settled_store-answer-requires-clause-settled g c =
+pub perform_on_settled_store-answer-requires : goal.perform_on_settled_store-answer-requires
+perform_on_settled_store-answer-requires g c =
     let old = g.W.Swift.history c.args.store.now in
     let middle = g.W.Swift.history c.match-known.store in
     let readied : Readied old middle c.args.known.now = elim c.match-known.branch as (λ _. Readied old middle c.args.known.now) [
       | in-Settled w ↦ readied_at_once w.in-Settled.is (ap g.W.Swift.history w.store-is)
       | in-Unsure+in-Ok w ↦ readied_by w.in-Unsure.is (ap g.W.Swift.history w.store-is) w.in-Ok.ensures
     ] in
-    settled_now readied c.requires.knows
+    record { settled = settled_now readied c.requires.knows }
 
 pub returns-clause-operated : goal.returns-clause-operated
 returns-clause-operated g c =

@@ -1,4 +1,4 @@
-use Rattle.std.proofs.Common.{◌-◌}
+use Rattle.std.proofs.Common.{◌-◌, ℕ, List}
 use Rattle.swift_calls.specs.History.{budget}
 use Rattle.swift_calls.specs.Limits.{IsMarker}
 use Rattle.leftovers.specs.Kept.{goes}
@@ -11,5 +11,5 @@ decreases-pages g l = budget - (g.W.Swift.history l.store).called
 abbrev pub invariant-pages : goal.invariant-pages
 invariant-pages g l = record {
   is_marker : IsMarker l.marker;
-  walked : Walked (g.W.Swift.history l.initial.store) (g.W.Swift.history l.store) l.folder l.bucket (goes l.kept) l.marker l.count;
+  walked : (bucket : List ℕ) → Walked (g.W.Swift.history l.initial.store) (g.W.Swift.history l.store) l.folder bucket (goes l.kept) l.marker l.count;
 }

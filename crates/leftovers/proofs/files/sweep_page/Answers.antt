@@ -10,17 +10,17 @@ use Rattle.leftovers.proofs.PageSweep.{page_broken, page_failed, page_no_memory,
 use Rattle.leftovers.proofs.files.sweep_page.Goals as goal
 
 pub returns-in_err-page-clause-asks : goal.returns-in_err-page-clause-asks
-returns-in_err-page-clause-asks g c = page_failed c.args.bucket.now (goes c.args.kept.now) (as_asked c.as_slice.ensures refl c.as_slice-2.ensures c.in_err-page.ensures.asks) _ c.from_residual.ensures.1
+returns-in_err-page-clause-asks g c = λ bucket. page_failed bucket (goes c.args.kept.now) (as_asked c.as_slice.ensures refl c.as_slice-2.ensures c.in_err-page.ensures.asks) _ c.from_residual.ensures.1
 
 pub returns-in_err-page-clause-pays : goal.returns-in_err-page-clause-pays
-returns-in_err-page-clause-pays g c = pays_failed c.args.bucket.now (goes c.args.kept.now) (as_asked c.as_slice.ensures refl c.as_slice-2.ensures c.in_err-page.ensures.asks) _ c.from_residual.ensures.1
+returns-in_err-page-clause-pays g c = λ bucket. pays_failed bucket (goes c.args.kept.now) (as_asked c.as_slice.ensures refl c.as_slice-2.ensures c.in_err-page.ensures.asks) _ c.from_residual.ensures.1
 
 pub returns-in_err-next-clause-asks : goal.returns-in_err-next-clause-asks
-returns-in_err-next-clause-asks g c = page_no_memory c.args.bucket.now (goes c.args.kept.now) (as_read c.as_slice.ensures refl c.as_slice-2.ensures refl c.in_ok-page.ensures.asks) _ c.from_residual-in_err-next.ensures.1
+returns-in_err-next-clause-asks g c = λ bucket. page_no_memory bucket (goes c.args.kept.now) (as_read c.as_slice.ensures refl c.as_slice-2.ensures refl c.in_ok-page.ensures.asks) _ c.from_residual-in_err-next.ensures.1
 
 pub returns-in_err-next-clause-pays : goal.returns-in_err-next-clause-pays
-returns-in_err-next-clause-pays g c =
-    pays_broken c.args.bucket.now (goes c.args.kept.now) (as_read c.as_slice.ensures refl c.as_slice-2.ensures refl c.in_ok-page.ensures.asks) (grows_none (always _) Any _) _ _ c.from_residual-in_err-next.ensures.1
+returns-in_err-next-clause-pays g c = λ bucket.
+    pays_broken bucket (goes c.args.kept.now) (as_read c.as_slice.ensures refl c.as_slice-2.ensures refl c.in_ok-page.ensures.asks) (grows_none (always _) Any _) _ _ c.from_residual-in_err-next.ensures.1
 
 pub sweep_items-requires-clause-names : goal.sweep_items-requires-clause-names
 sweep_items-requires-clause-names g c = all_keys [] _ (as_page refl refl c.as_slice-4.ensures c.in_ok-page.ensures.page).named
@@ -29,14 +29,14 @@ pub sweep_items-requires-clause-few : goal.sweep_items-requires-clause-few
 sweep_items-requires-clause-few g c = page_few _ (as_page refl refl c.as_slice-4.ensures c.in_ok-page.ensures.page)
 
 pub returns-in_err-count-clause-asks : goal.returns-in_err-count-clause-asks
-returns-in_err-count-clause-asks g c =
-    page_broken c.args.bucket.now (goes c.args.kept.now) (as_read c.as_slice.ensures refl c.as_slice-2.ensures c.as_slice-4.ensures c.in_ok-page.ensures.asks)
-    (page_few _ (as_page refl refl c.as_slice-4.ensures c.in_ok-page.ensures.page)) (c.in_err-count.ensures.asks c.args.bucket.now) _ c.from_residual-in_err-count.ensures.1
+returns-in_err-count-clause-asks g c = λ bucket.
+    page_broken bucket (goes c.args.kept.now) (as_read c.as_slice.ensures refl c.as_slice-2.ensures c.as_slice-4.ensures c.in_ok-page.ensures.asks)
+    (page_few _ (as_page refl refl c.as_slice-4.ensures c.in_ok-page.ensures.page)) (c.in_err-count.ensures.asks bucket) _ c.from_residual-in_err-count.ensures.1
 
 pub returns-in_err-count-clause-pays : goal.returns-in_err-count-clause-pays
-returns-in_err-count-clause-pays g c =
-    pays_broken c.args.bucket.now (goes c.args.kept.now) (as_read c.as_slice.ensures refl c.as_slice-2.ensures c.as_slice-4.ensures c.in_ok-page.ensures.asks)
-    (c.in_err-count.ensures.asks c.args.bucket.now).grows _ _ c.from_residual-in_err-count.ensures.1
+returns-in_err-count-clause-pays g c = λ bucket.
+    pays_broken bucket (goes c.args.kept.now) (as_read c.as_slice.ensures refl c.as_slice-2.ensures c.as_slice-4.ensures c.in_ok-page.ensures.asks)
+    (c.in_err-count.ensures.asks bucket).grows _ _ c.from_residual-in_err-count.ensures.1
 
 pub returns-clause-counted : goal.returns-clause-counted
 returns-clause-counted g c =
@@ -49,15 +49,15 @@ returns-clause-is_marker g c =
     next_is_marker _ _ _ c.in_ok-next.next (as_page refl refl c.as_slice-4.ensures c.in_ok-page.ensures.page) (c.in_ok-next.ensures ∙ ap (λ p. next_after (map name_in p)) (c.as_slice-3.ensures ∙ sym c.as_slice-4.ensures))
 
 pub returns-clause-asks : goal.returns-clause-asks
-returns-clause-asks g c =
-    page_swept c.args.bucket.now (goes c.args.kept.now) (as_read c.as_slice.ensures refl c.as_slice-2.ensures c.as_slice-4.ensures c.in_ok-page.ensures.asks)
+returns-clause-asks g c = λ bucket.
+    page_swept bucket (goes c.args.kept.now) (as_read c.as_slice.ensures refl c.as_slice-2.ensures c.as_slice-4.ensures c.in_ok-page.ensures.asks)
     (page_few _ (as_page refl refl c.as_slice-4.ensures c.in_ok-page.ensures.page)) c.in_ok-count.count c.in_ok-count.ensures.tally c.in_ok-next.next
-    (c.in_ok-next.ensures ∙ ap (λ p. next_after (map name_in p)) (c.as_slice-3.ensures ∙ sym c.as_slice-4.ensures)) (c.in_ok-count.ensures.asks c.args.bucket.now)
+    (c.in_ok-next.ensures ∙ ap (λ p. next_after (map name_in p)) (c.as_slice-3.ensures ∙ sym c.as_slice-4.ensures)) (c.in_ok-count.ensures.asks bucket)
 
 pub returns-clause-pays : goal.returns-clause-pays
-returns-clause-pays g c =
-    let asks = c.in_ok-count.ensures.asks c.args.bucket.now in
+returns-clause-pays g c = λ bucket.
+    let asks = c.in_ok-count.ensures.asks bucket in
     let first = as_read c.as_slice.ensures refl c.as_slice-2.ensures c.as_slice-4.ensures c.in_ok-page.ensures.asks in
     let next = c.in_ok-next.ensures ∙ ap (λ p. next_after (map name_in p)) (c.as_slice-3.ensures ∙ sym c.as_slice-4.ensures) in
-    pays_page c.args.bucket.now (goes c.args.kept.now) first asks.grows c.in_ok-count.count c.in_ok-count.ensures.tally c.in_ok-next.next
-    (page_swept c.args.bucket.now (goes c.args.kept.now) first (page_few _ (as_page refl refl c.as_slice-4.ensures c.in_ok-page.ensures.page)) c.in_ok-count.count c.in_ok-count.ensures.tally c.in_ok-next.next next asks)
+    pays_page bucket (goes c.args.kept.now) first asks.grows c.in_ok-count.count c.in_ok-count.ensures.tally c.in_ok-next.next
+    (page_swept bucket (goes c.args.kept.now) first (page_few _ (as_page refl refl c.as_slice-4.ensures c.in_ok-page.ensures.page)) c.in_ok-count.count c.in_ok-count.ensures.tally c.in_ok-next.next next asks)

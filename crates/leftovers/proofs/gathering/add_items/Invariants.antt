@@ -3,5 +3,5 @@ use Rattle.leftovers.proofs.Gathers.{Adding}
 use Rattle.leftovers.proofs.gathering.add_items.Given as goal
 
 abbrev pub invariant-loop-item : goal.invariant-loop-item
-invariant-loop-item g l = Adding l.source l.folder l.bucket l.items l.initial.table (g.W.Swift.history l.initial.store) (g.W.Swift.history l.store) l.item-index l.table
+invariant-loop-item g l = Adding l.files.source l.files.folder.now l.files.bucket.now l.items l.initial.table (g.W.Swift.history l.initial.store) (g.W.Swift.history l.store) l.item-index l.table
     × LeavesThroughout (g.W.Swift.history l.initial.store) (g.W.Swift.history l.store)

@@ -11,6 +11,6 @@ decreases-pages g l = budget - (g.W.Swift.history l.store).called
 abbrev pub invariant-pages : goal.invariant-pages
 invariant-pages g l = record {
   is_marker : IsMarker l.marker;
-  gathering : Gathering (g.W.Swift.history l.initial.store) (g.W.Swift.history l.store) l.source l.folder l.bucket l.marker l.table;
+  gathering : Gathering (g.W.Swift.history l.initial.store) (g.W.Swift.history l.store) l.files.source l.folder l.bucket l.marker l.table;
   leaves : LeavesThroughout (g.W.Swift.history l.initial.store) (g.W.Swift.history l.store);
 }

@@ -11,33 +11,33 @@ use Rattle.leftovers.proofs.Gathers.{folder_fits, gather_broken, gather_failed, 
 use Rattle.leftovers.proofs.gathering.gather_page.Goals as goal
 
 pub file_page-requires-clause-folder : goal.file_page-requires-clause-folder
-file_page-requires-clause-folder g c = subst IsContainerName (sym (c.as_slice.ensures ∙ c.requires.folder)) (folder_fits c.args.source c.args.bucket.now c.requires.bucket)
+file_page-requires-clause-folder g c = subst IsContainerName (sym (c.as_slice.ensures ∙ c.requires.folder)) (folder_fits c.args.files.now.source c.args.files.now.bucket.now c.requires.bucket)
 
 pub returns-in_err-page-clause-asks : goal.returns-in_err-page-clause-asks
-returns-in_err-page-clause-asks g c = gather_failed c.args.source c.args.bucket.now _ _ (as_asked c.as_slice.ensures refl c.as_slice-2.ensures c.in_err-page.ensures.asks) _ c.from_residual.ensures.1
+returns-in_err-page-clause-asks g c = gather_failed c.args.files.now.source c.args.files.now.bucket.now _ _ (as_asked c.as_slice.ensures refl c.as_slice-2.ensures c.in_err-page.ensures.asks) _ c.from_residual.ensures.1
 
 pub returns-in_err-page-clause-pays : goal.returns-in_err-page-clause-pays
-returns-in_err-page-clause-pays g c = gather_pays_failed c.args.source c.args.bucket.now c.args.table.now c.args.table.now (as_asked c.as_slice.ensures refl c.as_slice-2.ensures c.in_err-page.ensures.asks) _ c.from_residual.ensures.1
+returns-in_err-page-clause-pays g c = gather_pays_failed c.args.files.now.source c.args.files.now.bucket.now c.args.table.now c.args.table.now (as_asked c.as_slice.ensures refl c.as_slice-2.ensures c.in_err-page.ensures.asks) _ c.from_residual.ensures.1
 
 pub returns-in_err-next-clause-asks : goal.returns-in_err-next-clause-asks
 returns-in_err-next-clause-asks g c =
-    gather_no_memory c.args.source c.args.folder.now c.args.bucket.now c.args.marker.now _ _ _ (as_read c.as_slice.ensures refl c.as_slice-2.ensures refl c.in_ok-page.ensures.asks) _ c.from_residual-in_err-next.ensures.1
+    gather_no_memory c.args.files.now.source c.args.files.now.folder.now c.args.files.now.bucket.now c.args.marker.now _ _ _ (as_read c.as_slice.ensures refl c.as_slice-2.ensures refl c.in_ok-page.ensures.asks) _ c.from_residual-in_err-next.ensures.1
 
 pub returns-in_err-next-clause-pays : goal.returns-in_err-next-clause-pays
 returns-in_err-next-clause-pays g c =
-    gather_pays_broken c.args.source c.args.folder.now c.args.bucket.now c.args.marker.now _ c.args.table.now c.args.table.now (as_read c.as_slice.ensures refl c.as_slice-2.ensures refl c.in_ok-page.ensures.asks) (grows_none (always _) Any _) _ _ c.from_residual-in_err-next.ensures.1
+    gather_pays_broken c.args.files.now.source c.args.files.now.folder.now c.args.files.now.bucket.now c.args.marker.now _ c.args.table.now c.args.table.now (as_read c.as_slice.ensures refl c.as_slice-2.ensures refl c.in_ok-page.ensures.asks) (grows_none (always _) Any _) _ _ c.from_residual-in_err-next.ensures.1
 
 pub add_items-requires-clause-names : goal.add_items-requires-clause-names
 add_items-requires-clause-names g c = all_keys [] _ (as_page refl refl c.as_slice-4.ensures c.in_ok-page.ensures.page).named
 
 pub returns-in_err-add_items-clause-asks : goal.returns-in_err-add_items-clause-asks
 returns-in_err-add_items-clause-asks g c =
-    gather_broken c.args.source c.args.folder.now c.args.bucket.now c.args.marker.now c.as_slice-4.result.now c.args.table.now c.add_items.new.table (as_read c.as_slice.ensures refl c.as_slice-2.ensures c.as_slice-4.ensures c.in_ok-page.ensures.asks)
+    gather_broken c.args.files.now.source c.args.files.now.folder.now c.args.files.now.bucket.now c.args.marker.now c.as_slice-4.result.now c.args.table.now c.add_items.new.table (as_read c.as_slice.ensures refl c.as_slice-2.ensures c.as_slice-4.ensures c.in_ok-page.ensures.asks)
     (page_few _ (as_page refl refl c.as_slice-4.ensures c.in_ok-page.ensures.page)) c.in_err-add_items.ensures.asks _ c.from_residual-in_err-add_items.ensures.1
 
 pub returns-in_err-add_items-clause-pays : goal.returns-in_err-add_items-clause-pays
 returns-in_err-add_items-clause-pays g c =
-    gather_pays_broken c.args.source c.args.folder.now c.args.bucket.now c.args.marker.now c.as_slice-4.result.now c.args.table.now c.add_items.new.table (as_read c.as_slice.ensures refl c.as_slice-2.ensures c.as_slice-4.ensures c.in_ok-page.ensures.asks)
+    gather_pays_broken c.args.files.now.source c.args.files.now.folder.now c.args.files.now.bucket.now c.args.marker.now c.as_slice-4.result.now c.args.table.now c.add_items.new.table (as_read c.as_slice.ensures refl c.as_slice-2.ensures c.as_slice-4.ensures c.in_ok-page.ensures.asks)
     c.in_err-add_items.ensures.asks.grows _ _ c.from_residual-in_err-add_items.ensures.1
 
 pub returns-clause-counted : goal.returns-clause-counted
@@ -52,7 +52,7 @@ returns-clause-is_marker g c =
 
 pub returns-clause-asks : goal.returns-clause-asks
 returns-clause-asks g c =
-    gather_more c.args.source c.args.folder.now c.args.bucket.now c.args.marker.now c.as_slice-4.result.now c.args.table.now c.add_items.new.table (as_read c.as_slice.ensures refl c.as_slice-2.ensures c.as_slice-4.ensures c.in_ok-page.ensures.asks)
+    gather_more c.args.files.now.source c.args.files.now.folder.now c.args.files.now.bucket.now c.args.marker.now c.as_slice-4.result.now c.args.table.now c.add_items.new.table (as_read c.as_slice.ensures refl c.as_slice-2.ensures c.as_slice-4.ensures c.in_ok-page.ensures.asks)
     (page_few _ (as_page refl refl c.as_slice-4.ensures c.in_ok-page.ensures.page)) c.in_ok-next.next (c.in_ok-next.ensures ∙ ap (λ p. next_after (map name_in p)) (c.as_slice-3.ensures ∙ sym c.as_slice-4.ensures)) c.in_ok-add_items.ensures.asks
 
 pub returns-clause-pays : goal.returns-clause-pays
@@ -60,8 +60,8 @@ returns-clause-pays g c =
     let first = as_read c.as_slice.ensures refl c.as_slice-2.ensures c.as_slice-4.ensures c.in_ok-page.ensures.asks in
     let few = page_few _ (as_page refl refl c.as_slice-4.ensures c.in_ok-page.ensures.page) in
     let next = c.in_ok-next.ensures ∙ ap (λ p. next_after (map name_in p)) (c.as_slice-3.ensures ∙ sym c.as_slice-4.ensures) in
-    gather_pays c.args.source c.args.folder.now c.args.bucket.now c.args.marker.now c.as_slice-4.result.now c.args.table.now c.add_items.new.table first c.in_ok-add_items.ensures.asks.grows few c.in_ok-next.next
-    (gather_more c.args.source c.args.folder.now c.args.bucket.now c.args.marker.now c.as_slice-4.result.now c.args.table.now c.add_items.new.table first few c.in_ok-next.next next c.in_ok-add_items.ensures.asks)
+    gather_pays c.args.files.now.source c.args.files.now.folder.now c.args.files.now.bucket.now c.args.marker.now c.as_slice-4.result.now c.args.table.now c.add_items.new.table first c.in_ok-add_items.ensures.asks.grows few c.in_ok-next.next
+    (gather_more c.args.files.now.source c.args.files.now.folder.now c.args.files.now.bucket.now c.args.marker.now c.as_slice-4.result.now c.args.table.now c.add_items.new.table first few c.in_ok-next.next next c.in_ok-add_items.ensures.asks)
 
 pub returns-in_err-add_items-clause-leaves : goal.returns-in_err-add_items-clause-leaves
 returns-in_err-add_items-clause-leaves g c = throughout_then c.in_ok-page.ensures.asks.grows.on c.in_err-add_items.ensures.asks.grows.on c.in_ok-page.ensures.leaves c.in_err-add_items.ensures.leaves

@@ -11,7 +11,7 @@ returns-in_err-head-clause-plans g c = λ key text. told_nothing (lit≤ tt) c.i
 pub returns-in_default-clause-plans : goal.returns-in_default-clause-plans
 returns-in_default-clause-plans g c = λ key text.
     answers (lit≤ tt) None c.in_default.is _ c.in_ok-head.ensures.asks (search rules)
-    (λ tree may none. copy_of_none _ _ _ _ _ _ _ _ _ _ tree c.requires.name c.args.id may none)
+    (λ tree may none. copy_of_none _ _ _ _ _ _ _ _ _ _ tree c.fits.ensures c.args.copy.into.id may none)
 
 pub returns-clause-plans : goal.returns-clause-plans
 returns-clause-plans g c = λ key text.

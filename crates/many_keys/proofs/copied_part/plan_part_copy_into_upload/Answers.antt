@@ -11,7 +11,7 @@ returns-in_err-head_bucket-clause-plans g c = λ key text. told_nothing (lit≤ 
 pub returns-in_default-clause-plans : goal.returns-in_default-clause-plans
 returns-in_default-clause-plans g c = λ key text.
     answers (lit≤ tt) None c.in_default.is _ c.in_ok-head_bucket.ensures.asks (search rules)
-    (λ tree opened none. copy_of_no_bucket _ _ _ _ _ _ _ _ _ _ tree c.requires.name c.args.id opened none)
+    (λ tree opened none. copy_of_no_bucket _ _ _ _ _ _ _ _ _ _ tree c.fits.ensures c.args.copy.into.id opened none)
 
 pub returns-clause-plans : goal.returns-clause-plans
 returns-clause-plans g c = λ key text.

@@ -20,16 +20,16 @@ returns-in-NoBucket-clause-plans g c =
 pub returns-in-NoUpload-clause-plans : goal.returns-in-NoUpload-clause-plans
 returns-in-NoUpload-clause-plans g c =
     asked_reply (always 2) (lit≤ tt) (λ tree has. has.settled) NoUpload c.in-NoUpload.is _ c.in_ok-find_upload.ensures.asks (search rules)
-    (λ tree sound has lacks. copy_lost _ _ _ _ _ _ _ _ _ _ tree c.requires.place.named lacks)
+    (λ tree sound has lacks. copy_lost _ _ _ _ _ _ _ _ _ _ tree c.fits.ensures lacks)
 
 pub returns-in-Open-clause-plans : goal.returns-in-Open-clause-plans
 returns-in-Open-clause-plans g c =
-    goes_on_from met_settled c.find_upload.ensures.stays.settings c.in_ok-find_upload.ensures.asks (c.plan_part_copy_into_upload.ensures.plans c.args.key.now c.args.text.now)
+    goes_on_from met_settled c.find_upload.ensures.stays.settings c.in_ok-find_upload.ensures.asks (c.plan_part_copy_into_upload.ensures.plans c.args.copy.key c.args.copy.id)
     (λ any tells. after_told_of (Open c.in-Open.id) c.in-Open.is tells) (lit≤ tt)
 
 pub returns-in-Open-clause-stands : goal.returns-in-Open-clause-stands
 returns-in-Open-clause-stands g c =
-    let is = subst (IsFoundBy c.args.text.now) c.in-Open.is c.in_ok-find_upload.ensures.by_text in
+    let is = subst (IsFoundBy c.args.copy.id) c.in-Open.is c.in_ok-find_upload.ensures.by_text in
     ensures_less (λ tree part. record { body = part.body; part = record { id = c.in-Open.id; is = is; stands = part.stands } }) _ c.plan_part_copy_into_upload.ensures.stands
 
 pub returns-in-Open-clause-stops : goal.returns-in-Open-clause-stops

@@ -13,9 +13,9 @@ returns-in_err-body-clause-plans g c = λ acl list same other.
 pub returns-clause-plans : goal.returns-clause-plans
 returns-clause-plans g c = λ acl list same other.
     goes_on_from (met_within (λ tree found. found.source)) c.get_source_to_copy.ensures.stays.settings c.in_ok-body.ensures.asks
-    (c.put_copy.ensures.plans acl list c.args.from_bucket c.args.from_key same other)
-    (after_told (λ tree. IsFoundSource c.args.bucket list c.args.from_bucket c.args.from_key c.args.head (s3_state tree))
-    (λ tree. IsReadSource c.args.bucket list c.args.from_bucket c.args.from_key c.args.head c.in_ok-body.body (s3_state tree)) c.in_ok-body.body refl
+    (c.put_copy.ensures.plans acl list c.args.copy.from_bucket c.args.copy.from_key same other)
+    (after_told (λ tree. IsFoundSource c.args.copy.to.bucket list c.args.copy.from_bucket c.args.copy.from_key c.args.head (s3_state tree))
+    (λ tree. IsReadSource c.args.copy.to.bucket list c.args.copy.from_bucket c.args.copy.from_key c.args.head c.in_ok-body.body (s3_state tree)) c.in_ok-body.body refl
     (λ tree found told. record { listed = found.listed; source = found.source; read = told }))
     (omega arith)
 

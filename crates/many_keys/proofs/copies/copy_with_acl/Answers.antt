@@ -1,28 +1,29 @@
-use Rattle.std.specs.Prelude.{None, Some}
-use Rattle.std.proofs.Common.{lit≤, rules}
+use Rattle.account_calls.specs.Answers.{condition_calls}
+use Rattle.std.specs.Prelude.{◌+◌, None, Some}
+use Rattle.std.proofs.Common.{arith, rules}
 use Rattle.upload_records.specs.Native.{s3_state}
 use Rattle.account_calls.specs.Calls.{TellsBucket}
 use Rattle.account_calls.proofs.lemmas.Ends.{told_nothing, answers, met_settled, after_told, goes_on_from}
 use Rattle.many_keys.specs.Copies.{IsFoundBucket}
-use Rattle.many_keys.proofs.CopySteps.{as_few, one_more, copy_from_missing}
+use Rattle.many_keys.proofs.CopySteps.{as_few, more_calls, copy_from_missing}
 use Rattle.account_calls.proofs.lemmas.Refusals.{stops_behind}
 use Rattle.many_keys.proofs.CopiedFrom.{copied_behind}
 use Rattle.many_keys.proofs.copies.copy_with_acl.Goals as goal
 
 pub returns-in_err-from-clause-plans : goal.returns-in_err-from-clause-plans
-returns-in_err-from-clause-plans g c = told_nothing (as_few c.args.bucket c.args.from_bucket c.args.from_key 1 4 _ (lit≤ tt)) c.in_err-from.ensures.asks _ c.from_residual.ensures.1
+returns-in_err-from-clause-plans g c = told_nothing (as_few c.args.copy.to.bucket c.args.copy.from_bucket c.args.copy.from_key 1 (4 + condition_calls c.args.only_if.now) _ (omega arith)) c.in_err-from.ensures.asks _ c.from_residual.ensures.1
 
 pub returns-in_default-clause-plans : goal.returns-in_default-clause-plans
 returns-in_default-clause-plans g c =
-    answers (as_few c.args.bucket c.args.from_bucket c.args.from_key 1 4 _ (lit≤ tt)) None c.in_default.is _ c.in_ok-from.ensures.asks (search rules)
-    (λ tree there told. copy_from_missing _ _ _ _ _ _ _ _ _ _ _ there c.requires.acl told)
+    answers (as_few c.args.copy.to.bucket c.args.copy.from_bucket c.args.copy.from_key 1 (4 + condition_calls c.args.only_if.now) _ (omega arith)) None c.in_default.is _ c.in_ok-from.ensures.asks (search rules)
+    (λ tree there told. copy_from_missing _ _ _ _ _ _ _ _ _ _ _ _ there c.requires.acl told)
 
 pub returns-clause-plans : goal.returns-clause-plans
 returns-clause-plans g c =
     goes_on_from met_settled c.head_bucket.ensures.stays.settings c.in_ok-from.ensures.asks c.copy_from.ensures.plans
-    (after_told (λ tree. TellsBucket c.args.bucket (s3_state tree) (Some c.args.list)) (λ tree. IsFoundBucket c.args.bucket c.args.list c.args.from_bucket (s3_state tree)) (Some c.in-Some.from) c.in-Some.is
+    (after_told (λ tree. TellsBucket c.args.copy.to.bucket (s3_state tree) (Some c.args.copy.list)) (λ tree. IsFoundBucket c.args.copy.to.bucket c.args.copy.list c.args.copy.from_bucket (s3_state tree)) (Some c.in-Some.from) c.in-Some.is
     (λ tree there told. record { listed = there; from = (c.in-Some.from, told) }))
-    (λ x. one_more c.args.bucket c.args.from_bucket c.args.from_key 3 x.1.same)
+    (λ x. more_calls c.args.copy.to.bucket c.args.copy.from_bucket c.args.copy.from_key 1 (3 + condition_calls c.args.only_if.now) (4 + condition_calls c.args.only_if.now) (omega arith) x.1.same)
 
 pub returns-clause-stops : goal.returns-clause-stops
 returns-clause-stops g c = stops_behind c.in_ok-from.ensures.asks _ c.copy_from.ensures.stops

@@ -7,19 +7,19 @@ use Rattle.many_keys.specs.Copies.{TellsCopied}
 use Rattle.many_keys.proofs.listed.copy_empty_source.Goals as goal
 
 pub returns-in_err-id-clause-plans : goal.returns-in_err-id-clause-plans
-returns-in_err-id-clause-plans g c = λ acl list from_bucket from_key other onto. id_in_vain c.requires.place.named (omega arith) c.in_err-id.ensures.asks _ c.from_residual.ensures.1
+returns-in_err-id-clause-plans g c = λ acl list from_bucket from_key other onto. id_in_vain c.fits.ensures (omega arith) c.in_err-id.ensures.asks _ c.from_residual.ensures.1
 
 pub put_listed_copy-end-requires : goal.put_listed_copy-end-requires
 put_listed_copy-end-requires g c =
     record {
-      copy = is_copy c.args.replaced c.sealed_copy-sealed.ensures.copy c.requires.place c.sealed_copy-sealed.ensures.fits c.sealed_copy-sealed.ensures.content c.sealed_copy-sealed.ensures.ordered c.requires.head c.requires.of_parts
-          (none_is_well _ c.new-parts.ensures) c.requires.moment;
+      copy = is_copy c.args.to.replaced c.sealed_copy-sealed.ensures.copy (record { named = c.fits.ensures; keyed = c.fits-2.ensures }) c.sealed_copy-sealed.ensures.fits c.sealed_copy-sealed.ensures.content c.sealed_copy-sealed.ensures.ordered c.requires.head c.requires.of_parts
+          (none_is_well _ c.new-parts.ensures) c.args.to.label.timed;
     }
 
 pub returns-clause-plans : goal.returns-clause-plans
 returns-clause-plans g c = λ acl list from_bucket from_key other onto.
-    id_puts _ _ from_bucket from_key acl list c.args.replaced c.args.head c.args.label.now other onto
-    _ c.law_unused_is_abandoned.ensures c.requires.place.named c.free_id.ensures.stays.settings c.in_ok-id.ensures.asks c.requires.empty c.new-parts.ensures c.sealed_copy-sealed.ensures.copy c.put_listed_copy-end.ensures.plans
+    id_puts _ _ from_bucket from_key acl list c.args.to.replaced c.args.head c.args.to.label other onto
+    _ c.law_unused_is_abandoned.ensures c.fits.ensures c.free_id.ensures.stays.settings c.in_ok-id.ensures.asks c.requires.empty c.new-parts.ensures c.sealed_copy-sealed.ensures.copy c.put_listed_copy-end.ensures.plans
 
 pub returns-clause-stands : goal.returns-clause-stands
 returns-clause-stands g c =

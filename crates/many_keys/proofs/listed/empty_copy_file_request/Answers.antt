@@ -1,6 +1,6 @@
 use Rattle.std.proofs.Common.{sym, subst, ◌∙◌}
 use Rattle.swift_calls.specs.Step.{Fit}
-use Rattle.swift_calls.specs.declared.calls.SwiftRequest.TheVariants.{PutObject}
+use Rattle.swift_calls.specs.Files.{PutObject}
 use Rattle.many_keys.proofs.PutsCopy.{none_fits, put_none, tag_has_text}
 use Rattle.many_keys.proofs.listed.empty_copy_file_request.Goals as goal
 

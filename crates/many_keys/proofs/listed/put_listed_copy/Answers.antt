@@ -1,4 +1,4 @@
-use Rattle.std.proofs.Common.{sym, subst, lit≤, rules, refl}
+use Rattle.std.proofs.Common.{sym, subst, lit≤, rules}
 use Rattle.account_calls.specs.Plan.{Plans}
 use Rattle.account_calls.proofs.lemmas.Ends.{commits, out_of_memory}
 use Rattle.account_calls.proofs.lemmas.Puts.{ensures_ended}

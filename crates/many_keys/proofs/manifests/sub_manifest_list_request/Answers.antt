@@ -7,6 +7,6 @@ use Rattle.many_keys.proofs.manifests.sub_manifest_list_request.Goals as goal
 
 pub returns-clause-fits : goal.returns-clause-fits
 returns-clause-fits c = (
-  subst IsContainerName (sym (c.in_ok-container.ensures ∙ ap segments_name c.as_slice.ensures)) (segments_fits c.args.bucket.now c.requires.named),
+  subst IsContainerName (sym (c.in_ok-container.ensures ∙ ap segments_name c.bytes.ensures.value)) (segments_fits c.args.bucket.now c.bytes.ensures.fit),
   subst IsObjectName (sym c.in_ok-name.ensures) (sub_fits c.args.id _ (omega (arith, c.requires.few))),
 )

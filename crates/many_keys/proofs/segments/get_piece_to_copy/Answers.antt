@@ -16,16 +16,16 @@ returns-in_err-name-clause-asks g c = not_asked _ _ _ c.from_residual-in_err-nam
 
 pub call-requires : goal.call-requires
 call-requires g c = (
-  subst IsContainerName (sym (c.in_ok-container.ensures ∙ ap segments_name c.as_slice.ensures)) (segments_fits c.args.bucket.now c.requires.named),
+  subst IsContainerName (sym (c.in_ok-container.ensures ∙ ap segments_name c.bytes.ensures.value)) (segments_fits c.args.bucket.now c.bytes.ensures.fit),
   subst IsObjectName (sym c.in_ok-name.ensures) (segment_fits c.args.id c.args.piece.number c.requires.number),
   tt,
 )
 
 pub returns-in_err-reply-clause-asks : goal.returns-in_err-reply-clause-asks
-returns-in_err-reply-clause-asks g c = asked_of_in_vain (piece_reads c.args.bucket.now c.args.id c.args.piece (c.in_ok-container.ensures ∙ ap segments_name c.as_slice.ensures) c.in_ok-name.ensures) c.in_err-reply.ensures.calls _ c.from_residual-in_err-reply.ensures.1
+returns-in_err-reply-clause-asks g c = asked_of_in_vain (piece_reads c.args.bucket.now c.args.id c.args.piece (c.in_ok-container.ensures ∙ ap segments_name c.bytes.ensures.value) c.in_ok-name.ensures) c.in_err-reply.ensures.calls _ c.from_residual-in_err-reply.ensures.1
 
 pub returns-clause-asks : goal.returns-clause-asks
-returns-clause-asks g c = asked_of (piece_reads c.args.bucket.now c.args.id c.args.piece (c.in_ok-container.ensures ∙ ap segments_name c.as_slice.ensures) c.in_ok-name.ensures) c.in_ok-reply.ensures.calls _ (inr c.piece_in_reply.ensures.due) c.piece_in_reply.ensures.own
+returns-clause-asks g c = asked_of (piece_reads c.args.bucket.now c.args.id c.args.piece (c.in_ok-container.ensures ∙ ap segments_name c.bytes.ensures.value) c.in_ok-name.ensures) c.in_ok-reply.ensures.calls _ (inr c.piece_in_reply.ensures.due) c.piece_in_reply.ensures.own
 
 pub returns-in_err-container-clause-leaves : goal.returns-in_err-container-clause-leaves
 returns-in_err-container-clause-leaves g c = λ observable. refl

@@ -19,21 +19,21 @@ put_copied_segment_file-requires-clause-etag g c = c.body_etag-etag.ensures ∙ 
 
 pub returns-clause-number : goal.returns-clause-number
 returns-clause-number g c =
-    let part : SealedPart = record { number = c.args.number; etag = c.in_ok-from_slice.field-0; size = c.len.result } in
-    IfOk-weaker c.put_copied_segment_file.result (λ told. told ≡ part) (λ told. told.number ≡ c.args.number) (λ told is. ap (λ (p : SealedPart). p.number) is) c.put_copied_segment_file.ensures.told
+    let part : SealedPart = record { number = c.get.result; etag = c.in_ok-from_slice.field-0; size = c.len.result } in
+    IfOk-weaker c.put_copied_segment_file.result (λ told. told ≡ part) (λ told. told.number ≡ c.args.place.now.number) (λ told is. ap (λ (p : SealedPart). p.number) is ∙ c.get.ensures.value) c.put_copied_segment_file.ensures.told
 
 pub returns-clause-size : goal.returns-clause-size
 returns-clause-size g c =
-    let part : SealedPart = record { number = c.args.number; etag = c.in_ok-from_slice.field-0; size = c.len.result } in
+    let part : SealedPart = record { number = c.get.result; etag = c.in_ok-from_slice.field-0; size = c.len.result } in
     IfOk-weaker c.put_copied_segment_file.result (λ told. told ≡ part) (λ told. told.size ≡ length c.args.body) (λ told is. ap (λ (p : SealedPart). p.size) is ∙ c.len.ensures) c.put_copied_segment_file.ensures.told
 
 pub returns-clause-proper : goal.returns-clause-proper
 returns-clause-proper g c =
-    let part : SealedPart = record { number = c.args.number; etag = c.in_ok-from_slice.field-0; size = c.len.result } in
+    let part : SealedPart = record { number = c.get.result; etag = c.in_ok-from_slice.field-0; size = c.len.result } in
     IfOk-weaker c.put_copied_segment_file.result (λ told. told ≡ part) (λ told. part_fits_sealed_text told ≡ true)
-    (λ told is. part_is_sealed told c.args.number c.args.body (ap (λ (p : SealedPart). p.number) is)
+    (λ told is. part_is_sealed told c.args.place.now.number c.args.body (ap (λ (p : SealedPart). p.number) is ∙ c.get.ensures.value)
     (ap (λ (p : SealedPart). p.etag) is ∙ (c.in_ok-from_slice.ensures ∙ (c.body_etag-etag.ensures ∙ ap body_etag c.as_slice.ensures))) (ap (λ (p : SealedPart). p.size) is ∙ c.len.ensures)
-    c.requires.number c.requires.sized)
+    c.get.ensures.fit c.requires)
     c.put_copied_segment_file.ensures.told
 
 pub returns-in_err-from_slice-clause-own : goal.returns-in_err-from_slice-clause-own

@@ -1,4 +1,4 @@
-use Rattle.std.proofs.Common.{refl, ap, ◌∙◌, inr}
+use Rattle.std.proofs.Common.{◌<◌, ◌^◌, refl, ap, subst, ◌∙◌, inr}
 use Rattle.account_calls.specs.Interpret.{stored_due}
 use Rattle.account_calls.proofs.lemmas.One.{not_asked}
 use Rattle.account_calls.proofs.lemmas.Quiet.{quiet_in_vain, quieted}
@@ -16,12 +16,12 @@ returns-in_err-reply-clause-asks g c =
     quiet_in_vain
     (puts_segment {told = c.args.part} c.law_orphan_put.ensures (record {
       same = c.in_ok-request.ensures.request;
-      is = c.requires.named;
-      counted = c.requires.number;
+      is = c.fits.ensures;
+      counted = c.get.ensures.fit;
       sized = c.requires.sized;
-      below = c.requires.moment;
-      fits = c.ranges.id.fits;
-      numbered = refl;
+      below = c.args.place.now.label.timed;
+      fits = subst (λ n. n < 2 ^ 128) c.upload_id.ensures c.upload_id.type_inv;
+      numbered = c.requires.number;
       etag = c.requires.same;
       size = c.requires.size;
     }))
@@ -32,12 +32,12 @@ returns-clause-asks g c =
     quieted
     (puts_segment {told = c.args.part} c.law_orphan_put.ensures (record {
       same = c.in_ok-request.ensures.request;
-      is = c.requires.named;
-      counted = c.requires.number;
+      is = c.fits.ensures;
+      counted = c.get.ensures.fit;
       sized = c.requires.sized;
-      below = c.requires.moment;
-      fits = c.ranges.id.fits;
-      numbered = refl;
+      below = c.args.place.now.label.timed;
+      fits = subst (λ n. n < 2 ^ 128) c.upload_id.ensures c.upload_id.type_inv;
+      numbered = c.requires.number;
       etag = c.requires.same;
       size = c.requires.size;
     }))
@@ -54,5 +54,5 @@ returns-in_err-reply-clause-own g c = own_failed _ _ c.from_residual-in_err-repl
 
 pub returns-clause-own : goal.returns-clause-own
 returns-clause-own g c =
-    own_put c.args.body c.args.part c.requires.size c.requires.same (put_keeps c.in_ok-request.ensures.request c.in_ok-reply.ensures.calls) _ c.copied_segment_in_reply.ensures.told
+    own_put c.args.body c.args.part c.requires.number c.requires.size c.requires.same (put_keeps c.in_ok-request.ensures.request c.in_ok-reply.ensures.calls) _ c.copied_segment_in_reply.ensures.told
     (told_stands c.args.etag.now c.in_ok-request.ensures.request c.in_ok-reply.ensures.calls c.args.part _ _ refl c.copied_segment_in_reply.ensures.due)

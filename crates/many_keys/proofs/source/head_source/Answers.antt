@@ -8,7 +8,7 @@ pub returns-in_err-told-clause-asks : goal.returns-in_err-told-clause-asks
 returns-in_err-told-clause-asks g c = subst (Asks _ _ _ _ _) (sym (err_is _ _ c.from_residual.ensures.1)) c.in_err-told.ensures.asks
 
 pub returns-clause-asks : goal.returns-clause-asks
-returns-clause-asks g c = asks_proper c.law_object_proper.ensures _ _ c.requires.place.named c.in_ok-told.ensures.asks c.proper_head_to_copy.ensures.due
+returns-clause-asks g c = asks_proper c.law_object_proper.ensures _ _ c.fits.ensures c.in_ok-told.ensures.asks c.proper_head_to_copy.ensures.due
 
 pub returns-in_err-told-clause-leaves : goal.returns-in_err-told-clause-leaves
 returns-in_err-told-clause-leaves g c = c.in_err-told.ensures.leaves

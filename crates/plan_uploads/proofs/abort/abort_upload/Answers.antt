@@ -28,21 +28,21 @@ returns-in-NoBucket-clause-beside g c = λ label. clears_other _ (λ gone. cc)
 pub returns-in-NoUpload-clause-plans : goal.returns-in-NoUpload-clause-plans
 returns-in-NoUpload-clause-plans g c = λ label.
     asked_reply (always 2) (omega arith) (λ tree has. has.settled) NoUpload c.in-NoUpload.is _ c.in_ok-find_upload.ensures.asks (search rules)
-    (λ tree sound has lacks. abort_lost _ _ _ _ _ tree c.requires lacks)
+    (λ tree sound has lacks. abort_lost _ _ _ _ _ tree c.fits.ensures lacks)
 
 pub returns-in-NoUpload-clause-beside : goal.returns-in-NoUpload-clause-beside
 returns-in-NoUpload-clause-beside g c = λ label. clears_other _ (λ gone. cc)
 
 pub returns-in-Open-clause-plans : goal.returns-in-Open-clause-plans
 returns-in-Open-clause-plans g c = λ label.
-    goes_on_from met_settled c.find_upload.ensures.stays.settings c.in_ok-find_upload.ensures.asks (c.abort_open.ensures.plans c.args.key.now c.args.text.now label)
+    goes_on_from met_settled c.find_upload.ensures.stays.settings c.in_ok-find_upload.ensures.asks (c.abort_open.ensures.plans c.args.upload.now.key c.args.upload.now.id label)
     (λ any tells. after_told_of (Open c.in-Open.id) c.in-Open.is tells)
     (λ x. let same = named_same c.in-Open.is x.1 in let paged = ap pages same in omega (arith, same, paged))
 
 pub returns-in-Open-clause-beside : goal.returns-in-Open-clause-beside
 returns-in-Open-clause-beside g c = λ label.
     clears_on met_settled c.in_ok-find_upload.ensures.asks (λ any tells. after_told_of (Open c.in-Open.id) c.in-Open.is tells)
-    (c.abort_open.ensures.plans c.args.key.now c.args.text.now label).grows.on (c.abort_open.ensures.beside c.args.key.now c.args.text.now label)
+    (c.abort_open.ensures.plans c.args.upload.now.key c.args.upload.now.id label).grows.on (c.abort_open.ensures.beside c.args.upload.now.key c.args.upload.now.id label)
 
 pub returns-in-NoBucket-clause-stops : goal.returns-in-NoBucket-clause-stops
 returns-in-NoBucket-clause-stops g c = record { so = let near = c.in_ok-find_upload.ensures.missing (ap is_bucket_missing c.in-NoBucket.is) in omega (arith, near) }

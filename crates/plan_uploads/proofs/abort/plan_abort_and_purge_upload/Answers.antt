@@ -12,13 +12,13 @@ use Rattle.plan_uploads.proofs.ReplyKinds.{kind_gone}
 use Rattle.plan_uploads.proofs.abort.plan_abort_and_purge_upload.Goals as goal
 
 pub returns-in_err-drop_record-clause-plans : goal.returns-in_err-drop_record-clause-plans
-returns-in_err-drop_record-clause-plans g c = λ key text label. drop_fails c.requires.name (omega arith) c.in_err-drop_record.ensures.drops _ c.from_residual.ensures.1
+returns-in_err-drop_record-clause-plans g c = λ key text label. drop_fails c.fits.ensures (omega arith) c.in_err-drop_record.ensures.drops _ c.from_residual.ensures.1
 
 pub returns-in_err-drop_record-clause-beside : goal.returns-in_err-drop_record-clause-beside
 returns-in_err-drop_record-clause-beside g c = λ key text label. clears_fault _ _ c.from_residual.ensures.1
 
 pub purge-requires-clause-named : goal.purge-requires-clause-named
-purge-requires-clause-named g c = subst IsContainerName (sym c.requires.folder) (segments_fits c.args.bucket.now c.requires.name)
+purge-requires-clause-named g c = subst IsContainerName (sym c.requires.folder) (segments_fits c.args.bucket.now c.fits.ensures)
 
 pub purge-requires-clause-prefix : goal.purge-requires-clause-prefix
 purge-requires-clause-prefix g c = subst IsMarker (sym c.requires.prefix) (prefix_is_marker c.args.id)
@@ -26,12 +26,12 @@ purge-requires-clause-prefix g c = subst IsMarker (sym c.requires.prefix) (prefi
 pub returns-clause-plans : goal.returns-clause-plans
 returns-clause-plans g c = λ key text label.
     subst (Plans _ _ _ _ _ _ _ _) (sym c.end_abort_upload_plan.ensures)
-    (gone_then c.requires.name c.in_ok-drop_record.ensures.drops (purged_at c.requires.folder c.requires.prefix c.purge.ensures.asks) key text _ label)
+    (gone_then c.fits.ensures c.in_ok-drop_record.ensures.drops (purged_at c.requires.folder c.requires.prefix (c.purge.ensures.asks c.args.bucket.now)) key text _ label)
 
 pub returns-clause-beside : goal.returns-clause-beside
 returns-clause-beside g c = λ key text label.
     subst (LeavesBeside _ _ _ _ _) (sym c.end_abort_upload_plan.ensures)
-    (clears_behind c.requires.name c.in_ok-drop_record.ensures.drops (purged_at c.requires.folder c.requires.prefix c.purge.ensures.asks) key text label)
+    (clears_behind c.fits.ensures c.in_ok-drop_record.ensures.drops (purged_at c.requires.folder c.requires.prefix (c.purge.ensures.asks c.args.bucket.now)) key text label)
 
 pub returns-clause-unrefused : goal.returns-clause-unrefused
 returns-clause-unrefused g c = subst Unrefused (sym c.end_abort_upload_plan.ensures) (gone_unrefused _)

@@ -1,4 +1,4 @@
-use Rattle.std.proofs.Common.{ap, arith, rules, None, Some, sym, subst, refl}
+use Rattle.std.proofs.Common.{ap, arith, rules, None, Some, sym, subst, refl, ◌∙◌}
 use Rattle.s3_machine.specs.declared.code.Code.TheVariants.{InvalidPart}
 use Rattle.plan_uploads.proofs.CompletionCalls.{lacks_memory, refused_at_once}
 use Rattle.plan_uploads.proofs.Completions.{invalid_part, listed_as}
@@ -15,13 +15,13 @@ returns-in_err-chosen-clause-plans g c = λ text. lacks_memory _ _ c.from_residu
 pub returns-in_default-clause-plans : goal.returns-in_default-clause-plans
 returns-in_default-clause-plans g c = λ text.
     refused_at_once (omega arith) _ InvalidPart (search rules)
-    (λ tree sound has. invalid_part tree c.args.bucket.now c.args.key.now c.args.opened c.args.parts.now sound c.requires.place.named text has c.args.state.now.settings.now c.args.list.now c.args.label.now c.requires.ascends
-    (listed_as c.args.parts.now c.as_slice.ensures c.in_ok-chosen.ensures.listed None c.in_default.is))
+    (λ tree sound has. invalid_part tree c.args.done.now.bucket c.args.done.now.key c.args.opened c.args.parts.now sound c.fits.ensures text has c.args.state.now.settings.now c.args.done.now.list c.args.label.now c.requires.ascends c.args.done.now.only_if
+    (listed_as c.args.parts.now (c.as_slice.ensures ∙ c.get.ensures.value) c.in_ok-chosen.ensures.listed None c.in_default.is))
     c.end_complete_upload_refused.result c.end_complete_upload_refused.ensures
 
 pub returns-clause-plans : goal.returns-clause-plans
 returns-clause-plans g c = λ text.
-    c.complete_chosen.ensures.plans text c.args.parts.now (listed_as c.args.parts.now c.as_slice.ensures c.in_ok-chosen.ensures.listed (Some c.in-Some.chosen) c.in-Some.is)
+    c.complete_chosen.ensures.plans text c.args.parts.now (listed_as c.args.parts.now (c.as_slice.ensures ∙ c.get.ensures.value) c.in_ok-chosen.ensures.listed (Some c.in-Some.chosen) c.in-Some.is)
 
 pub returns-in_default-clause-stands : goal.returns-in_default-clause-stands
 returns-in_default-clause-stands g c = refused_ensures InvalidPart _ (ap (λ (x : Completing). x.end) c.end_complete_upload_refused.ensures)

@@ -22,18 +22,18 @@ pub returns-then-not-rises-clause-plans : goal.returns-then-not-rises-clause-pla
 returns-then-not-rises-clause-plans g c = λ text.
     let falls : c.rises.result ≡ false = search rules in
     refused_at_once (omega arith) _ InvalidPartOrder (search rules)
-    (λ tree sound has. order_refused tree c.args.bucket.now c.args.key.now text c.args.opened c.requires.place.named has c.args.state.now.settings.now c.args.list.now c.args.label.now
-    (ap rises (sym c.as_slice.ensures) ∙ sym c.rises.ensures ∙ falls))
+    (λ tree sound has. order_refused tree c.args.done.now.bucket c.args.done.now.key text c.args.opened c.fits.ensures has c.args.state.now.settings.now c.args.done.now.list c.args.done.now.only_if c.args.label.now
+    (ap rises (sym (c.as_slice.ensures ∙ c.get.ensures.value)) ∙ sym c.rises.ensures ∙ falls))
     c.end_complete_upload_refused.result c.end_complete_upload_refused.ensures
 
 pub returns-in_err-parts-clause-plans : goal.returns-in_err-parts-clause-plans
 returns-in_err-parts-clause-plans g c = λ text.
-    asked_nothing (by_account (pages (named_by (present (g.W.Swift.history c.args.state.now.store.now)) c.args.bucket.now (id_digits c.args.opened.id)))) (omega arith)
-    (met_within (opened_parts c.requires.place.named)) c.in_err-parts.ensures.asks c.from_residual.result c.from_residual.ensures.1
+    asked_nothing (by_account (pages (named_by (present (g.W.Swift.history c.args.state.now.store.now)) c.args.done.now.bucket (id_digits c.args.opened.id)))) (omega arith)
+    (met_within (opened_parts c.fits.ensures)) c.in_err-parts.ensures.asks c.from_residual.result c.from_residual.ensures.1
 
 pub returns-clause-plans : goal.returns-clause-plans
 returns-clause-plans g c = λ text.
-    goes_on_from (met_within (opened_parts c.requires.place.named)) c.list_parts.ensures.stays.settings c.in_ok-parts.ensures.asks (c.complete_by.ensures.plans text)
+    goes_on_from (met_within (opened_parts c.fits.ensures)) c.list_parts.ensures.stays.settings c.in_ok-parts.ensures.asks (c.complete_by.ensures.plans text)
     (λ opens tells. has_parts c.as_slice-2.ensures opens tells)
     (λ x. omega arith)
 

@@ -1,5 +1,5 @@
 use Rattle.std.proofs.Common.{refl, ap, subst, inl, inr, arith, rules, sym}
-use Rattle.account_calls.specs.Answers.{pages, named_by}
+use Rattle.account_calls.specs.Answers.{condition_calls, pages, named_by}
 use Rattle.account_calls.specs.Calls.{always}
 use Rattle.account_calls.proofs.lemmas.Ends.{met_settled, goes_on_from}
 use Rattle.upload_calls.proofs.lemmas.Asking.{after_told_of, asked_in_vain, asked_reply}
@@ -22,38 +22,38 @@ use Rattle.plan_uploads.proofs.complete.complete_upload.Goals as goal
 
 pub returns-in_err-find_upload_to_complete-clause-plans : goal.returns-in_err-find_upload_to_complete-clause-plans
 returns-in_err-find_upload_to_complete-clause-plans g c =
-    ends_with_fault _ c.from_residual.ensures.1 (asked_in_vain (always 2) (two_calls (6 + pages (named_by (present (g.W.Swift.history c.args.state.now.store.now)) c.args.bucket.now c.args.text.now) + sub_manifests (length c.args.list.now)) (s3_state (present (g.W.Swift.history c.args.state.now.store.now))) c.args.bucket.now c.args.key.now c.args.text.now c.args.list.now (omega arith)) met_settled c.in_err-find_upload_to_complete.ensures.asks _ refl)
+    ends_with_fault _ c.from_residual.ensures.1 (asked_in_vain (always 2) (two_calls (6 + condition_calls c.args.done.now.only_if + pages (named_by (present (g.W.Swift.history c.args.state.now.store.now)) c.args.done.now.bucket c.args.done.now.id) + sub_manifests (length c.args.done.now.list)) (s3_state (present (g.W.Swift.history c.args.state.now.store.now))) c.args.done.now.bucket c.args.done.now.key c.args.done.now.id c.args.done.now.list (omega arith)) met_settled c.in_err-find_upload_to_complete.ensures.asks _ refl)
 
 pub returns-in_err-end_complete_upload_again-in-Again-clause-plans : goal.returns-in_err-end_complete_upload_again-in-Again-clause-plans
 returns-in_err-end_complete_upload_again-in-Again-clause-plans g c =
-    ends_with_fault _ c.from_residual-in_err-end_complete_upload_again-in-Again.ensures.1 (asked_out_of_memory (two_calls (6 + pages (named_by (present (g.W.Swift.history c.args.state.now.store.now)) c.args.bucket.now c.args.text.now) + sub_manifests (length c.args.list.now)) (s3_state (present (g.W.Swift.history c.args.state.now.store.now))) c.args.bucket.now c.args.key.now c.args.text.now c.args.list.now (omega arith)) met_settled c.in_ok-find_upload_to_complete.ensures.asks)
+    ends_with_fault _ c.from_residual-in_err-end_complete_upload_again-in-Again.ensures.1 (asked_out_of_memory (two_calls (6 + condition_calls c.args.done.now.only_if + pages (named_by (present (g.W.Swift.history c.args.state.now.store.now)) c.args.done.now.bucket c.args.done.now.id) + sub_manifests (length c.args.done.now.list)) (s3_state (present (g.W.Swift.history c.args.state.now.store.now))) c.args.done.now.bucket c.args.done.now.key c.args.done.now.id c.args.done.now.list (omega arith)) met_settled c.in_ok-find_upload_to_complete.ensures.asks)
 
 pub returns-in-NoBucket-clause-plans : goal.returns-in-NoBucket-clause-plans
 returns-in-NoBucket-clause-plans g c =
     ends_answered _ _ c.end_complete_upload_refused.ensures
-    (asked_reply (always 2) (two_calls (6 + pages (named_by (present (g.W.Swift.history c.args.state.now.store.now)) c.args.bucket.now c.args.text.now) + sub_manifests (length c.args.list.now)) (s3_state (present (g.W.Swift.history c.args.state.now.store.now))) c.args.bucket.now c.args.key.now c.args.text.now c.args.list.now (omega arith)) (λ tree has. has.settled) NoBucket c.in-NoBucket.is _ c.in_ok-find_upload_to_complete.ensures.asks (search rules)
-    (λ tree sound has missing. complete_missing _ _ _ _ _ _ _ missing))
+    (asked_reply (always 2) (two_calls (6 + condition_calls c.args.done.now.only_if + pages (named_by (present (g.W.Swift.history c.args.state.now.store.now)) c.args.done.now.bucket c.args.done.now.id) + sub_manifests (length c.args.done.now.list)) (s3_state (present (g.W.Swift.history c.args.state.now.store.now))) c.args.done.now.bucket c.args.done.now.key c.args.done.now.id c.args.done.now.list (omega arith)) (λ tree has. has.settled) NoBucket c.in-NoBucket.is _ c.in_ok-find_upload_to_complete.ensures.asks (search rules)
+    (λ tree sound has missing. complete_missing _ _ _ _ _ _ _ _ missing))
 
 pub returns-in-NoUpload-clause-plans : goal.returns-in-NoUpload-clause-plans
 returns-in-NoUpload-clause-plans g c =
     ends_answered _ _ c.end_complete_upload_refused-in-NoUpload.ensures
-    (asked_reply (always 2) (two_calls (6 + pages (named_by (present (g.W.Swift.history c.args.state.now.store.now)) c.args.bucket.now c.args.text.now) + sub_manifests (length c.args.list.now)) (s3_state (present (g.W.Swift.history c.args.state.now.store.now))) c.args.bucket.now c.args.key.now c.args.text.now c.args.list.now (omega arith)) (λ tree has. has.settled) NoUpload c.in-NoUpload.is _ c.in_ok-find_upload_to_complete.ensures.asks (search rules)
-    (λ tree sound has lacks. complete_lost _ _ _ _ _ _ tree c.requires.place.named (subst (λ l. LacksCompletion c.args.bucket.now c.args.key.now c.args.text.now l tree) c.as_slice.ensures lacks)))
+    (asked_reply (always 2) (two_calls (6 + condition_calls c.args.done.now.only_if + pages (named_by (present (g.W.Swift.history c.args.state.now.store.now)) c.args.done.now.bucket c.args.done.now.id) + sub_manifests (length c.args.done.now.list)) (s3_state (present (g.W.Swift.history c.args.state.now.store.now))) c.args.done.now.bucket c.args.done.now.key c.args.done.now.id c.args.done.now.list (omega arith)) (λ tree has. has.settled) NoUpload c.in-NoUpload.is _ c.in_ok-find_upload_to_complete.ensures.asks (search rules)
+    (λ tree sound has lacks. complete_lost _ _ _ _ _ _ _ tree c.fits.ensures lacks))
 
 pub returns-in_ok-end_complete_upload_again-in-Again-clause-plans : goal.returns-in_ok-end_complete_upload_again-in-Again-clause-plans
 returns-in_ok-end_complete_upload_again-in-Again-clause-plans g c =
     ends_answered _ _ c.in_ok-end_complete_upload_again-in-Again.ensures
-    (asked_reply (always 2) (two_calls (6 + pages (named_by (present (g.W.Swift.history c.args.state.now.store.now)) c.args.bucket.now c.args.text.now) + sub_manifests (length c.args.list.now)) (s3_state (present (g.W.Swift.history c.args.state.now.store.now))) c.args.bucket.now c.args.key.now c.args.text.now c.args.list.now (omega arith)) (λ tree has. has.settled) (Again c.in-Again.etag) c.in-Again.is _ c.in_ok-find_upload_to_complete.ensures.asks (search rules)
-    (λ tree sound has completed. completed_again _ _ _ _ _ _ tree c.requires.place.named _ (subst (λ l. IsCompleted c.args.bucket.now c.args.key.now c.args.text.now l c.in-Again.etag tree) c.as_slice.ensures completed)))
+    (asked_reply (always 2) (two_calls (6 + condition_calls c.args.done.now.only_if + pages (named_by (present (g.W.Swift.history c.args.state.now.store.now)) c.args.done.now.bucket c.args.done.now.id) + sub_manifests (length c.args.done.now.list)) (s3_state (present (g.W.Swift.history c.args.state.now.store.now))) c.args.done.now.bucket c.args.done.now.key c.args.done.now.id c.args.done.now.list (omega arith)) (λ tree has. has.settled) (Again c.in-Again.etag) c.in-Again.is _ c.in_ok-find_upload_to_complete.ensures.asks (search rules)
+    (λ tree sound has completed. completed_again _ _ _ _ _ _ _ tree c.fits.ensures _ completed))
 
 pub returns-in-Open-clause-plans : goal.returns-in-Open-clause-plans
 returns-in-Open-clause-plans g c =
-    goes_on_from met_settled c.find_upload_to_complete.ensures.stays.settings c.in_ok-find_upload_to_complete.ensures.asks (c.complete_open.ensures.plans c.args.text.now)
+    goes_on_from met_settled c.find_upload_to_complete.ensures.stays.settings c.in_ok-find_upload_to_complete.ensures.asks (c.complete_open.ensures.plans c.args.done.now.id)
     (λ any tells. after_told_of (Open c.in-Open.opened) c.in-Open.is tells)
     (λ x.
     let same = named_alike c.in-Open.is x.1 in
     let paged = ap pages same in
-    unkept_calls _ (6 + pages (named_by (present (g.W.Swift.history c.args.state.now.store.now)) c.args.bucket.now c.args.text.now) + sub_manifests (length c.args.list.now)) (present (g.W.Swift.history c.args.state.now.store.now)) c.args.bucket.now c.args.key.now c.args.text.now c.args.list.now c.requires.place.named c.in-Open.is x.1 (omega (arith, same, paged)))
+    unkept_calls _ (6 + condition_calls c.args.done.now.only_if + pages (named_by (present (g.W.Swift.history c.args.state.now.store.now)) c.args.done.now.bucket c.args.done.now.id) + sub_manifests (length c.args.done.now.list)) (present (g.W.Swift.history c.args.state.now.store.now)) c.args.done.now.bucket c.args.done.now.key c.args.done.now.id c.args.done.now.list c.fits.ensures c.in-Open.is x.1 (omega (arith, same, paged)))
 
 pub returns-in-NoBucket-clause-stands : goal.returns-in-NoBucket-clause-stands
 returns-in-NoBucket-clause-stands g c = refused_ensures NoSuchBucket _ (ap (λ (x : Completing). x.end) c.end_complete_upload_refused.ensures)

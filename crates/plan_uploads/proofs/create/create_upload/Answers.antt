@@ -26,13 +26,13 @@ returns-in_default-clause-beside g c = opens_none _ _ met_settled c.in_ok-list.e
 pub returns-clause-plans : goal.returns-clause-plans
 returns-clause-plans g c =
     goes_on_from met_settled c.head_bucket.ensures.stays.settings c.in_ok-list.ensures.asks c.plan_create_upload_within.ensures.plans
-    (after_told (λ tree. Any (s3_state tree)) (λ tree. TellsBucket c.args.bucket (s3_state tree) (Some c.in-Some.list)) (Some c.in-Some.list) c.in-Some.is (λ tree any told. told))
-    (λ x. let same = ap (λ tree. 2 * (records_of tree c.args.bucket + segments_of tree c.args.bucket + 1)) x.1.same in omega (arith, same))
+    (after_told (λ tree. Any (s3_state tree)) (λ tree. TellsBucket c.args.start.bucket (s3_state tree) (Some c.in-Some.list)) (Some c.in-Some.list) c.in-Some.is (λ tree any told. told))
+    (λ x. let same = ap (λ tree. 2 * (records_of tree c.args.start.bucket + segments_of tree c.args.start.bucket + 1)) x.1.same in omega (arith, same))
 
 pub returns-clause-beside : goal.returns-clause-beside
 returns-clause-beside g c =
     opens_on met_settled c.in_ok-list.ensures.asks (λ old new tells. tells.same)
-    (after_told (λ tree. Any (s3_state tree)) (λ tree. TellsBucket c.args.bucket (s3_state tree) (Some c.in-Some.list)) (Some c.in-Some.list) c.in-Some.is (λ tree any told. told))
+    (after_told (λ tree. Any (s3_state tree)) (λ tree. TellsBucket c.args.start.bucket (s3_state tree) (Some c.in-Some.list)) (Some c.in-Some.list) c.in-Some.is (λ tree any told. told))
     c.plan_create_upload_within.ensures.plans.grows.on c.plan_create_upload_within.ensures.beside
 
 pub returns-clause-stops : goal.returns-clause-stops

@@ -15,18 +15,18 @@ pub returns-then-is_other_acl-clause-beside : goal.returns-then-is_other_acl-cla
 returns-then-is_other_acl-clause-beside g c = opens_still _ _ _ _ _
 
 pub returns-in_err-id-clause-plans : goal.returns-in_err-id-clause-plans
-returns-in_err-id-clause-plans g c = asked_in_vain _ (omega arith) (met_there _ _ c.requires.place.named) c.in_err-id.ensures.asks _ c.from_residual.ensures.1
+returns-in_err-id-clause-plans g c = asked_in_vain _ (omega arith) (met_there _ _ c.fits.ensures) c.in_err-id.ensures.asks _ c.from_residual.ensures.1
 
 pub returns-in_err-id-clause-beside : goal.returns-in_err-id-clause-beside
-returns-in_err-id-clause-beside g c = opens_none _ _ (met_there _ _ c.requires.place.named) c.in_err-id.ensures.asks _
+returns-in_err-id-clause-beside g c = opens_none _ _ (met_there _ _ c.fits.ensures) c.in_err-id.ensures.asks _
 
 pub returns-clause-plans : goal.returns-clause-plans
 returns-clause-plans g c =
-    goes_on_from (λ met. met) c.free_id.ensures.stays.settings (asks_start _ c.args.list _ c.requires.place.named c.in_ok-id.ensures.asks) c.start.ensures.plans (λ told tells. start_after tells) (λ x. omega arith)
+    goes_on_from (λ met. met) c.free_id.ensures.stays.settings (asks_start _ c.args.list _ c.fits.ensures c.in_ok-id.ensures.asks) (c.start_under.ensures.plans c.args.list (sym c.is_other_acl.ensures ∙ c.if-is_other_acl.false)) (λ told tells. start_after tells) (λ x. omega arith)
 
 pub returns-clause-beside : goal.returns-clause-beside
 returns-clause-beside g c =
-    opens_on (λ met. met) (asks_start _ c.args.list _ c.requires.place.named c.in_ok-id.ensures.asks) (λ old new tells. tells.same) (λ told tells. start_after tells) c.start.ensures.plans.grows.on c.start.ensures.beside
+    opens_on (λ met. met) (asks_start _ c.args.list _ c.fits.ensures c.in_ok-id.ensures.asks) (λ old new tells. tells.same) (λ told tells. start_after tells) (c.start_under.ensures.plans c.args.list (sym c.is_other_acl.ensures ∙ c.if-is_other_acl.false)).grows.on (c.start_under.ensures.beside c.args.list)
 
 pub returns-clause-stops : goal.returns-clause-stops
-returns-clause-stops g c = stops_unrefused _ c.start.ensures.unrefused
+returns-clause-stops g c = stops_unrefused _ c.start_under.ensures.unrefused

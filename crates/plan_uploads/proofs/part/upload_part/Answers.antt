@@ -21,16 +21,16 @@ returns-in-NoBucket-clause-plans g c =
 pub returns-in-NoUpload-clause-plans : goal.returns-in-NoUpload-clause-plans
 returns-in-NoUpload-clause-plans g c =
     asked_reply (always 2) (lit≤ tt) (λ tree has. has.settled) NoUpload c.in-NoUpload.is _ c.in_ok-find_upload.ensures.asks (search rules)
-    (λ tree sound has lacks. part_lost _ _ _ _ _ tree c.requires.name lacks _ _)
+    (λ tree sound has lacks. part_lost _ _ _ _ _ tree c.fits.ensures lacks _ _)
 
 pub returns-in-Open-clause-plans : goal.returns-in-Open-clause-plans
 returns-in-Open-clause-plans g c =
-    goes_on_from met_settled c.find_upload.ensures.stays.settings c.in_ok-find_upload.ensures.asks (c.part_into.ensures.plans c.args.key.now c.args.text.now)
+    goes_on_from met_settled c.find_upload.ensures.stays.settings c.in_ok-find_upload.ensures.asks (c.part_into.ensures.plans c.args.part.key c.args.part.id)
     (λ any tells. after_told_of (Open c.in-Open.id) c.in-Open.is tells) (lit≤ tt)
 
 pub returns-in-Open-clause-stands : goal.returns-in-Open-clause-stands
 returns-in-Open-clause-stands g c =
-    let is = subst (IsFoundBy c.args.text.now) c.in-Open.is c.in_ok-find_upload.ensures.by_text in
+    let is = subst (IsFoundBy c.args.part.id) c.in-Open.is c.in_ok-find_upload.ensures.by_text in
     ensures_less (λ tree stands. record { id = c.in-Open.id; is = is; stands = stands }) _ c.part_into.ensures.stands
 
 pub returns-in-NoBucket-clause-stops : goal.returns-in-NoBucket-clause-stops

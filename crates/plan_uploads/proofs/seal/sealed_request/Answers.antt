@@ -1,6 +1,6 @@
 use Rattle.std.proofs.Common.{sym, subst}
 use Rattle.swift_calls.specs.Step.{Fit}
-use Rattle.swift_calls.specs.declared.calls.SwiftRequest.TheVariants.{PutObject}
+use Rattle.swift_calls.specs.Files.{PutObject}
 use Rattle.plan_uploads.proofs.SealCalls.{seal_fits}
 use Rattle.plan_uploads.proofs.seal.sealed_request.Goals as goal
 

@@ -21,11 +21,11 @@ returns-in-NoBucket-clause-plans g c = λ label.
 pub returns-in-NoUpload-clause-plans : goal.returns-in-NoUpload-clause-plans
 returns-in-NoUpload-clause-plans g c = λ label.
     asked_reply (always 2) (omega arith) (λ tree has. has.settled) NoUpload c.in-NoUpload.is _ c.in_ok-find_upload.ensures.asks (search rules)
-    (λ tree sound has lacks. parts_lost _ _ _ _ _ tree c.requires.name lacks _ _)
+    (λ tree sound has lacks. parts_lost _ _ _ _ _ tree c.fits.ensures lacks _ _)
 
 pub returns-in-Open-clause-plans : goal.returns-in-Open-clause-plans
 returns-in-Open-clause-plans g c = λ label.
-    goes_on_from met_settled c.find_upload.ensures.stays.settings c.in_ok-find_upload.ensures.asks (c.plan_list_parts_within.ensures.plans c.args.text.now label)
+    goes_on_from met_settled c.find_upload.ensures.stays.settings c.in_ok-find_upload.ensures.asks (c.plan_list_parts_within.ensures.plans c.args.list.id label)
     (λ any tells. after_told_of (Open c.in-Open.id) c.in-Open.is tells)
     (λ x. let same = ap pages (named_same c.in-Open.is x.1) in omega (arith, same))
 

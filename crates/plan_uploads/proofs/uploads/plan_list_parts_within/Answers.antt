@@ -17,18 +17,18 @@ use Rattle.plan_uploads.proofs.uploads.plan_list_parts_within.Goals as goal
 
 pub returns-in_err-listed-clause-plans : goal.returns-in_err-listed-clause-plans
 returns-in_err-listed-clause-plans g c = λ text label.
-    let most = by_account (pages (named_by (present (g.W.Swift.history c.args.state.now.store.now)) c.args.bucket (id_digits c.args.id))) in
-    asked_in_vain most (as_wide most) {Q = TellsOf (TellsParts c.args.bucket c.args.id c.args.marker c.args.max)} (λ met. record { observable = met.observable; sound = met.sound; has = record { settled = met.has.settled; is = only_parts c.requires.name met.has.settled (has_open met.has.is) } }) c.in_err-listed.ensures.asks _ c.from_residual.ensures.1
+    let most = by_account (pages (named_by (present (g.W.Swift.history c.args.state.now.store.now)) c.args.list.bucket (id_digits c.args.id))) in
+    asked_in_vain most (as_wide most) {Q = TellsOf (TellsParts c.args.list.bucket c.args.id c.args.list.asked.marker c.args.list.asked.max)} (λ met. record { observable = met.observable; sound = met.sound; has = record { settled = met.has.settled; is = only_parts c.fits.ensures met.has.settled (has_open met.has.is) } }) (rw c.get-asked.ensures.value at c.in_err-listed.ensures.asks) _ c.from_residual.ensures.1
 
 pub returns-clause-plans : goal.returns-clause-plans
 returns-clause-plans g c = λ text label.
-    let most = by_account (pages (named_by (present (g.W.Swift.history c.args.state.now.store.now)) c.args.bucket (id_digits c.args.id))) in
-    asked_end most (as_wide most) (λ tree has. record { settled = has.settled; is = only_parts c.requires.name has.settled (has_open has.is) }) _ c.in_ok-listed.ensures.asks
-    (rw c.end_list_parts_plan.ensures (parts_are_own c.args.bucket c.args.key c.args.id c.args.marker c.args.max c.in_ok-listed.listed c.in_ok-listed.ensures.dated)) (search rules)
+    let most = by_account (pages (named_by (present (g.W.Swift.history c.args.state.now.store.now)) c.args.list.bucket (id_digits c.args.id))) in
+    asked_end most (as_wide most) (λ tree has. record { settled = has.settled; is = only_parts c.fits.ensures has.settled (has_open has.is) }) _ (rw c.get-asked.ensures.value at c.in_ok-listed.ensures.asks)
+    (rw c.end_list_parts_plan.ensures (parts_are_own c.args.list.bucket c.args.list.key c.args.id c.args.list.asked.marker c.args.list.asked.max c.in_ok-listed.listed c.in_ok-listed.ensures.dated)) (search rules)
     (λ tree sound has told. record {
-      reply = parts_told c.args.bucket c.args.key c.args.id c.args.marker c.args.max c.in_ok-listed.listed;
+      reply = parts_told c.args.list.bucket c.args.list.key c.args.id c.args.list.asked.marker c.args.list.asked.max c.in_ok-listed.listed;
       is = ap Ok c.end_list_parts_plan.ensures;
-      step = parts_listed _ _ _ _ _ tree c.requires.name c.args.id has.is c.ranges.id.fits c.args.marker c.args.max c.in_ok-listed.listed told;
+      step = parts_listed _ _ _ _ _ tree c.fits.ensures c.args.id has.is c.ranges.id.fits c.args.list.asked.marker c.args.list.asked.max c.in_ok-listed.listed told;
     })
 
 pub returns-clause-unrefused : goal.returns-clause-unrefused

@@ -19,8 +19,8 @@ returns-in_default-clause-plans g c = λ label.
 pub returns-clause-plans : goal.returns-clause-plans
 returns-clause-plans g c = λ label.
     goes_on_from met_settled c.head_bucket.ensures.stays.settings c.in_ok-head_bucket.ensures.asks (c.plan_list_uploads_within.ensures.plans c.in-Some.field-0 label)
-    (after_told (λ tree. Any (s3_state tree)) (λ tree. TellsBucket c.args.bucket (s3_state tree) (Some c.in-Some.field-0)) (Some c.in-Some.field-0) c.in-Some.is (λ tree any told. told))
-    (λ x. let same = ap (λ tree. pages (records_of tree c.args.bucket) + records_of tree c.args.bucket) x.1.same in omega (arith, same))
+    (after_told (λ tree. Any (s3_state tree)) (λ tree. TellsBucket c.args.list.bucket (s3_state tree) (Some c.in-Some.field-0)) (Some c.in-Some.field-0) c.in-Some.is (λ tree any told. told))
+    (λ x. let same = ap (λ tree. pages (records_of tree c.args.list.bucket) + records_of tree c.args.list.bucket) x.1.same in omega (arith, same))
 
 pub returns-clause-stops : goal.returns-clause-stops
 returns-clause-stops g c = stops_unrefused _ c.plan_list_uploads_within.ensures.unrefused

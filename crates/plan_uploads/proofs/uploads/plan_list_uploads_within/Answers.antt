@@ -13,18 +13,18 @@ use Rattle.plan_uploads.proofs.uploads.plan_list_uploads_within.Goals as goal
 
 pub returns-in_err-listed-clause-plans : goal.returns-in_err-listed-clause-plans
 returns-in_err-listed-clause-plans g c = λ acl label.
-    let most = by_account (pages (records_of (present (g.W.Swift.history c.args.state.now.store.now)) c.args.bucket) + records_of (present (g.W.Swift.history c.args.state.now.store.now)) c.args.bucket) in
-    calls_in_vain most (as_wide most) (met_there _ acl c.requires.name) c.in_err-listed.ensures.asks _ c.from_residual.ensures.1
+    let most = by_account (pages (records_of (present (g.W.Swift.history c.args.state.now.store.now)) c.args.list.bucket) + records_of (present (g.W.Swift.history c.args.state.now.store.now)) c.args.list.bucket) in
+    calls_in_vain most (as_wide most) (met_there _ acl c.fits.ensures) (rw c.get.ensures.value at c.in_err-listed.ensures.asks) _ c.from_residual.ensures.1
 
 pub returns-clause-plans : goal.returns-clause-plans
 returns-clause-plans g c = λ acl label.
-    let most = by_account (pages (records_of (present (g.W.Swift.history c.args.state.now.store.now)) c.args.bucket) + records_of (present (g.W.Swift.history c.args.state.now.store.now)) c.args.bucket) in
-    calls_end most (as_wide most) (met_there _ acl c.requires.name) c.in_ok-listed.listed refl _ c.in_ok-listed.ensures.asks
-    (rw c.end_list_uploads_plan.ensures (uploads_are_own c.args.bucket c.args.prefix c.args.key_marker c.args.id_marker c.args.max c.args.url c.in_ok-listed.listed c.in_ok-listed.ensures.dated)) (search rules)
+    let most = by_account (pages (records_of (present (g.W.Swift.history c.args.state.now.store.now)) c.args.list.bucket) + records_of (present (g.W.Swift.history c.args.state.now.store.now)) c.args.list.bucket) in
+    calls_end most (as_wide most) (met_there _ acl c.fits.ensures) c.in_ok-listed.listed refl _ (rw c.get.ensures.value at c.in_ok-listed.ensures.asks)
+    (rw c.end_list_uploads_plan.ensures (uploads_are_own c.args.list.bucket c.args.list.asked.prefix c.args.list.asked.key_marker c.args.list.asked.id_marker c.args.list.asked.max c.args.list.asked.url c.in_ok-listed.listed c.in_ok-listed.ensures.dated)) (search rules)
     (λ tree there told. (
-      uploads_told c.args.bucket c.args.prefix c.args.key_marker c.args.id_marker c.args.max c.args.url c.in_ok-listed.listed,
+      uploads_told c.args.list.bucket c.args.list.asked.prefix c.args.list.asked.key_marker c.args.list.asked.id_marker c.args.list.asked.max c.args.list.asked.url c.in_ok-listed.listed,
       ap Ok c.end_list_uploads_plan.ensures,
-      uploads_listed _ _ _ _ acl there c.args.prefix c.args.key_marker c.args.id_marker c.args.max c.args.url c.in_ok-listed.listed told,
+      uploads_listed _ _ _ _ acl there c.args.list.asked.prefix c.args.list.asked.key_marker c.args.list.asked.id_marker c.args.list.asked.max c.args.list.asked.url c.in_ok-listed.listed told,
     ))
 
 pub returns-clause-unrefused : goal.returns-clause-unrefused

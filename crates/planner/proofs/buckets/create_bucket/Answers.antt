@@ -10,7 +10,7 @@ pub returns-in_err-head_bucket-clause-plans : goal.returns-in_err-head_bucket-cl
 returns-in_err-head_bucket-clause-plans g c = told_nothing (omega arith) c.in_err-head_bucket.ensures.asks _ c.from_residual.ensures.1
 
 pub returns-in-None-clause-plans : goal.returns-in-None-clause-plans
-returns-in-None-clause-plans g c = missing_goes_on c.args.bucket c.requires.name c.head_bucket.ensures.stays.settings c.args.acl c.in-None.is c.in_ok-head_bucket.ensures.asks c.plan_create_missing_bucket.ensures.plans
+returns-in-None-clause-plans g c = missing_goes_on c.args.made.bucket c.fits.ensures c.head_bucket.ensures.stays.settings c.args.made.acl c.in-None.is c.in_ok-head_bucket.ensures.asks c.plan_create_missing_bucket.ensures.plans
 
 pub returns-in-Some-clause-plans : goal.returns-in-Some-clause-plans
 returns-in-Some-clause-plans g c = answers (omega arith) (Some c.in-Some.field-0) c.in-Some.is _ c.in_ok-head_bucket.ensures.asks (search rules) (λ tree any told. steps_owned _ _ _ _ _ _ told)

@@ -1,5 +1,5 @@
 use Rattle.std.proofs.Common.{refl, rules}
-use Rattle.s3_machine.specs.declared.operation.Op.TheVariants.{ListBuckets}
+use Rattle.s3_machine.specs.Ops.{ListBuckets}
 use Rattle.swift_calls.specs.History.{present}
 use Rattle.account_calls.specs.Answers.{most_calls}
 use Rattle.account_calls.proofs.lemmas.Ends.{as_wide, met_settled, calls_in_vain, calls_end}

@@ -11,7 +11,7 @@ pub returns-clause-plans : goal.returns-clause-plans
 returns-clause-plans g c =
     subst (Plans _ _ _ _ _ _ _ _) (sym c.end_create_bucket_plan.ensures)
     (commits _ (lit≤ tt) c.put_bucket_container.ensures.changes (λ done. search rules) (λ tree may. may)
-    (λ tree done new may is. becomes (steps_made _ _ _ _ _ _ c.in_ok-name.ensures may.lacks) is))
+    (λ tree done new may is. becomes (steps_made _ _ _ _ _ _ c.in_ok-name.ensures.value may.lacks) is))
 
 pub returns-in_err-name-clause-plans : goal.returns-in_err-name-clause-plans
 returns-in_err-name-clause-plans g c = out_of_memory _ _ c.from_residual.ensures.1

@@ -13,7 +13,7 @@ pub returns-in_default-clause-plans : goal.returns-in_default-clause-plans
 returns-in_default-clause-plans g c = answers (omega arith) None c.in_default.is _ c.in_ok-list.ensures.asks (search rules) (λ tree any told. list_missing _ _ _ _ _ told)
 
 pub returns-clause-plans : goal.returns-clause-plans
-returns-clause-plans g c = counted_on (pages_listed c.args.bucket c.args.asked) (Some c.in-Some.list) c.in-Some.is c.head_bucket.ensures.stays.settings c.in_ok-list.ensures.asks c.plan_list_objects_within.ensures.plans (λ tree any told. told)
+returns-clause-plans g c = counted_on (pages_listed c.args.wanted.bucket c.args.wanted.asked) (Some c.in-Some.list) c.in-Some.is c.head_bucket.ensures.stays.settings c.in_ok-list.ensures.asks c.plan_list_objects_within.ensures.plans (λ tree any told. told)
 
 pub returns-clause-stops : goal.returns-clause-stops
 returns-clause-stops g c = stops_behind c.in_ok-list.ensures.asks _ c.plan_list_objects_within.ensures.stops

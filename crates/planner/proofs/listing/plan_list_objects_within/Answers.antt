@@ -16,12 +16,12 @@ returns-then-not-may_read-clause-plans g c = needs_none _ (search rules) (λ tre
 
 pub returns-in_err-listed-clause-plans : goal.returns-in_err-listed-clause-plans
 returns-in_err-listed-clause-plans g c =
-    let most = by_account (pages_listed c.args.bucket c.args.asked (present (g.W.Swift.history c.args.state.now.store.now))) in
+    let most = by_account (pages_listed c.args.wanted.bucket c.args.wanted.asked (present (g.W.Swift.history c.args.state.now.store.now))) in
     calls_in_vain most (as_wide most) met_settled c.in_err-listed.ensures.asks _ c.from_residual.ensures.1
 
 pub returns-clause-plans : goal.returns-clause-plans
 returns-clause-plans g c =
-    let most = by_account (pages_listed c.args.bucket c.args.asked (present (g.W.Swift.history c.args.state.now.store.now))) in
+    let most = by_account (pages_listed c.args.wanted.bucket c.args.wanted.asked (present (g.W.Swift.history c.args.state.now.store.now))) in
     calls_end most (as_wide most) met_settled c.in_ok-listed.listed refl _ c.in_ok-listed.ensures.asks
     (subst IsOwnReply (sym c.end_list_objects_plan.ensures) (items_are_own _ _ _ c.in_ok-listed.ensures.dated)) (search rules)
     (λ tree there told. (_, ap Ok c.end_list_objects_plan.ensures, list_told _ _ _ _ _ _ there (sym c.may_read.ensures ∙ c.if-not-may_read.false) _ told))

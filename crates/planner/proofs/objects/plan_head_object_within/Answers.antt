@@ -20,7 +20,7 @@ returns-in_default-clause-plans g c = answers (lit≤ tt) None c.in_default.is _
 pub returns-clause-plans : goal.returns-clause-plans
 returns-clause-plans g c =
     ends_by (lit≤ tt) (Some c.in-Some.head) c.in-Some.is _ c.in_ok-head.ensures.asks c.end_head_object_plan.ensures.own (search rules)
-    (λ tree there object. (headed_reply c.args.range c.args.conditions.now c.in-Some.head, ap Ok c.end_head_object_plan.ensures.reply, head_there _ _ _ _ _ _ _ _ there (sym c.may_read.ensures ∙ c.if-not-may_read.false) _ object))
+    (λ tree there object. (headed_reply c.args.read.now.range c.args.read.now.conditions c.in-Some.head, ap Ok c.end_head_object_plan.ensures.reply, head_there _ _ _ _ _ _ _ _ there (sym c.may_read.ensures ∙ c.if-not-may_read.false) _ object))
 
 pub returns-clause-stops : goal.returns-clause-stops
-returns-clause-stops g c = rw c.end_head_object_plan.ensures.reply (headed_stops c.in_ok-head.ensures.asks c.args.range c.args.conditions.now c.in-Some.head)
+returns-clause-stops g c = rw c.end_head_object_plan.ensures.reply (headed_stops c.in_ok-head.ensures.asks c.args.read.now.range c.args.read.now.conditions c.in-Some.head)

@@ -1,30 +1,18 @@
-use Rattle.std.specs.Prelude.{None, Some}
-use Rattle.std.proofs.Common.{◌∙◌, arith, rules}
-use Rattle.s3_machine.specs.declared.operation.Op.TheVariants.{GetObject}
-use Rattle.account_calls.specs.Calls.{Any, TellsBucket}
-use Rattle.account_calls.proofs.lemmas.Ends.{answers}
-use Rattle.planner.proofs.Finding.{found_nothing, finds_on}
-use Rattle.planner.proofs.Readings.{get_missing}
-use Rattle.planner.proofs.Stopping.{finds_behind}
+use Rattle.std.proofs.Common.{refl, sym, subst}
+use Rattle.planner.proofs.Bodiless.{reading_bodiless}
+use Rattle.planner.proofs.Finding.{answered_or_found, leaves_end}
 use Rattle.planner.proofs.reading.find_object.Goals as goal
+use Rattle.planner.specs.Reading.{HasNoByte}
 
-pub returns-in_err-list-clause-finds : goal.returns-in_err-list-clause-finds
-returns-in_err-list-clause-finds g c = found_nothing _ 2 _ _ _ Any (GetObject c.args.bucket c.args.key c.args.range c.args.conditions.now) c.args.label.now (omega arith) c.in_err-list.ensures.asks _ c.from_residual.ensures.1
-
-pub returns-in_default-clause-finds : goal.returns-in_default-clause-finds
-returns-in_default-clause-finds g c = answers (omega arith) None c.in_default.is _ c.in_ok-list.ensures.asks (search rules) (λ tree any told. get_missing _ _ _ _ _ _ _ told)
-
-pub returns-clause-finds : goal.returns-clause-finds
-returns-clause-finds g c = finds_on _ _ 1 _ _ _ _ _ Any (λ s. TellsBucket c.args.bucket s (Some c.in-Some.list)) (GetObject c.args.bucket c.args.key c.args.range c.args.conditions.now) c.args.label.now (omega arith) (Some c.in-Some.list) c.in-Some.is c.head_bucket.ensures.stays.settings c.in_ok-list.ensures.asks (λ tree any told. told) _ c.find_object_within.ensures.finds
-
-pub returns-in_err-list-clause-account : goal.returns-in_err-list-clause-account
-returns-in_err-list-clause-account g c = c.in_err-list.ensures.leaves
-
-pub returns-in_default-clause-account : goal.returns-in_default-clause-account
-returns-in_default-clause-account g c = c.in_ok-list.ensures.leaves
+pub returns-clause-answered : goal.returns-clause-answered
+returns-clause-answered g c = rw c.reading_end.ensures
+    (answered_or_found _ _ _ _ _ _ refl refl _ c.found_object.ensures.stops c.found_object.ensures.finds)
 
 pub returns-clause-account : goal.returns-clause-account
-returns-clause-account g c = λ observable. c.find_object_within.ensures.account (c.in_ok-list.ensures.asks.grows.on.observable observable) ∙ c.in_ok-list.ensures.leaves observable
+returns-clause-account g c = c.found_object.ensures.account
 
-pub returns-clause-stops : goal.returns-clause-stops
-returns-clause-stops g c = finds_behind (g.W.Swift.history c.find_object_within.new.state.store.now) c.in_ok-list.ensures.asks _ c.find_object_within.ensures.stops
+pub returns-clause-leaves : goal.returns-clause-leaves
+returns-clause-leaves g c = rw c.reading_end.ensures (leaves_end _ c.found_object.ensures.leaves)
+
+pub returns-clause-bodiless : goal.returns-clause-bodiless
+returns-clause-bodiless g c = subst HasNoByte (sym c.reading_end.ensures) (reading_bodiless _ c.found_object.ensures.leaves)

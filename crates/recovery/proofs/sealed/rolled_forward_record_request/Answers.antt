@@ -1,6 +1,6 @@
 use Rattle.std.proofs.Common.{ap, sym, subst, ◌∙◌}
 use Rattle.swift_calls.specs.Step.{Fit}
-use Rattle.swift_calls.specs.declared.calls.SwiftRequest.TheVariants.{PutObject}
+use Rattle.swift_calls.specs.Files.{PutObject}
 use Rattle.upload_records.specs.Layout.{uploads_name}
 use Rattle.account_calls.proofs.lemmas.SealStands.{record_fits}
 use Rattle.recovery.proofs.sealed.rolled_forward_record_request.Goals as goal

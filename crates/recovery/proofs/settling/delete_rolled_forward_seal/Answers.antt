@@ -6,17 +6,17 @@ use Rattle.recovery.proofs.RollStands.{object_through_delete, record_through_del
 use Rattle.recovery.proofs.settling.delete_rolled_forward_seal.Goals as goal
 
 pub returns-in_err-container-clause-asks : goal.returns-in_err-container-clause-asks
-returns-in_err-container-clause-asks g c = not_asked _ _ _ c.from_residual.ensures.1
+returns-in_err-container-clause-asks g c = λ sealed. not_asked _ _ _ c.from_residual.ensures.1
 
 pub returns-in_err-name-clause-asks : goal.returns-in_err-name-clause-asks
-returns-in_err-name-clause-asks g c = not_asked _ _ _ c.from_residual-in_err-name.ensures.1
+returns-in_err-name-clause-asks g c = λ sealed. not_asked _ _ _ c.from_residual-in_err-name.ensures.1
 
 pub returns-in_err-reply-clause-asks : goal.returns-in_err-reply-clause-asks
-returns-in_err-reply-clause-asks g c =
-    quiet_in_vain (deletes_sealed c.args.sealed.now c.in_ok-container.ensures c.in_ok-name.ensures) c.in_err-reply.ensures _ c.from_residual-in_err-reply.ensures.1
+returns-in_err-reply-clause-asks g c = λ sealed.
+    quiet_in_vain (deletes_sealed sealed c.in_ok-container.ensures c.in_ok-name.ensures) c.in_err-reply.ensures _ c.from_residual-in_err-reply.ensures.1
 
 pub returns-clause-asks : goal.returns-clause-asks
-returns-clause-asks g c = quieted (deletes_sealed c.args.sealed.now c.in_ok-container.ensures c.in_ok-name.ensures) c.in_ok-reply.ensures _ (inr c.interpret_file_delete.ensures.due) c.interpret_file_delete.ensures.own
+returns-clause-asks g c = λ sealed. quieted (deletes_sealed sealed c.in_ok-container.ensures c.in_ok-name.ensures) c.in_ok-reply.ensures _ (inr c.interpret_file_delete.ensures.due) c.interpret_file_delete.ensures.own
 
 pub returns-in_err-reply-clause-keeps : goal.returns-in_err-reply-clause-keeps
 returns-in_err-reply-clause-keeps g c = delete_keeps c.in_ok-container.ensures c.in_ok-name.ensures c.in_err-reply.ensures
@@ -28,13 +28,13 @@ pub returns-clause-done : goal.returns-clause-done
 returns-clause-done g c = λ observable has is. deleted c.in_ok-container.ensures c.in_ok-name.ensures c.in_ok-reply.ensures observable has
 
 pub returns-in_err-reply-clause-object : goal.returns-in_err-reply-clause-object
-returns-in_err-reply-clause-object g c = object_through_delete c.args.sealed.now c.in_ok-container.ensures c.in_ok-name.ensures c.requires c.in_err-reply.ensures
+returns-in_err-reply-clause-object g c = λ sealed has. object_through_delete sealed c.in_ok-container.ensures c.in_ok-name.ensures has c.in_err-reply.ensures
 
 pub returns-clause-object : goal.returns-clause-object
-returns-clause-object g c = object_through_delete c.args.sealed.now c.in_ok-container.ensures c.in_ok-name.ensures c.requires c.in_ok-reply.ensures
+returns-clause-object g c = λ sealed has. object_through_delete sealed c.in_ok-container.ensures c.in_ok-name.ensures has c.in_ok-reply.ensures
 
 pub returns-in_err-reply-clause-kept : goal.returns-in_err-reply-clause-kept
-returns-in_err-reply-clause-kept g c = record_through_delete c.args.sealed.now c.in_ok-container.ensures c.in_ok-name.ensures c.requires c.in_err-reply.ensures
+returns-in_err-reply-clause-kept g c = λ sealed has. record_through_delete sealed c.in_ok-container.ensures c.in_ok-name.ensures has c.in_err-reply.ensures
 
 pub returns-clause-kept : goal.returns-clause-kept
-returns-clause-kept g c = record_through_delete c.args.sealed.now c.in_ok-container.ensures c.in_ok-name.ensures c.requires c.in_ok-reply.ensures
+returns-clause-kept g c = λ sealed has. record_through_delete sealed c.in_ok-container.ensures c.in_ok-name.ensures has c.in_ok-reply.ensures

@@ -14,7 +14,7 @@ pub returns-then-branch-clause-asks : goal.returns-then-branch-clause-asks
 returns-then-branch-clause-asks g c = beside_there c.args.bucket.now c.requires.bucket c.args.kind c.args.listed.now c.in_ok-is_there.ensures.asks c.if-branch.true _ c.sweep_there.ensures.asks
 
 pub returns-clause-asks : goal.returns-clause-asks
-returns-clause-asks g c = beside_missing c.args.bucket.now c.requires.bucket c.args.kind c.args.listed.now c.in_ok-is_there.ensures.asks c.if-branch.false _ c.sweep_missing.ensures.asks
+returns-clause-asks g c = beside_missing c.args.bucket.now c.requires.bucket c.args.kind c.args.listed.now c.in_ok-is_there.ensures.asks c.if-branch.false _ (c.sweep_missing.ensures.asks c.args.bucket.now c.requires.bucket c.requires.folder)
 
 pub returns-then-branch-clause-tallies : goal.returns-then-branch-clause-tallies
 returns-then-branch-clause-tallies g c = tallied_later (g.W.Swift.history c.sweep_there.new.store).called c.in_ok-is_there.ensures.asks.grows.on.ordered _ c.sweep_there.ensures.tallies
@@ -24,3 +24,6 @@ returns-clause-tallies g c = tallied_later (g.W.Swift.history c.sweep_missing.ne
 
 pub returns-then-is_listed-clause-asks : goal.returns-then-is_listed-clause-asks
 returns-then-is_listed-clause-asks g c = beside_odd c.args.bucket.now c.requires.bucket c.args.kind c.args.listed.now c.in_ok-is_there.ensures.asks c.if-branch.false (sym c.is_listed.ensures ∙ c.if-is_listed.true)
+
+pub sweep_missing-requires : goal.sweep_missing-requires
+sweep_missing-requires g c = record { folder = (c.args.bucket.now, c.requires.bucket, c.requires.folder) }

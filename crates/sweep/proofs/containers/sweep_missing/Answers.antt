@@ -6,22 +6,19 @@ use Rattle.std.proofs.Common.{arith}
 use Rattle.sweep.proofs.Tally.{tallies_of}
 use Rattle.sweep.proofs.containers.sweep_missing.Goals as goal
 
-pub sweep_stray-requires-clause-folder : goal.sweep_stray-requires-clause-folder
-sweep_stray-requires-clause-folder g c = subst IsContainerName (sym c.requires.folder) (folder_fits c.args.bucket.now c.requires.bucket c.args.kind)
-
-pub sweep_stray-requires-clause-beside : goal.sweep_stray-requires-clause-beside
-sweep_stray-requires-clause-beside g c = subst (λ f. IsBeside f c.args.bucket.now) (sym c.requires.folder) (beside_is c.args.bucket.now c.requires.bucket c.args.kind)
+pub sweep_stray-requires : goal.sweep_stray-requires
+sweep_stray-requires g c = record { folder = subst IsContainerName (sym c.requires.folder.2) (folder_fits c.requires.folder.0 c.requires.folder.1 c.args.kind) }
 
 pub returns-in_err-files-clause-asks : goal.returns-in_err-files-clause-asks
-returns-in_err-files-clause-asks g c = asks_err (rw (c.requires.folder) at c.in_err-files.ensures.asks) _ c.from_residual.ensures.1
+returns-in_err-files-clause-asks g c = λ bucket is named. asks_err (rw (named) at (c.in_err-files.ensures.asks bucket (subst (λ f. IsBeside f bucket) (sym named) (beside_is bucket is c.args.kind)))) _ c.from_residual.ensures.1
 
 pub returns-in-Records-clause-asks : goal.returns-in-Records-clause-asks
-returns-in-Records-clause-asks g c =
-    rw (c.in-Records.is) (asks_made _ (λ old new sound stray cleared. records_cleared c.args.bucket.now c.requires.bucket old new c.in_ok-files.files stray cleared) (rw (c.requires.folder, c.in-Records.is) at c.in_ok-files.ensures.asks))
+returns-in-Records-clause-asks g c = λ bucket is named.
+    rw (c.in-Records.is) (asks_made _ (λ old new sound stray cleared. records_cleared bucket is old new c.in_ok-files.files stray cleared) (rw (named, c.in-Records.is) at (c.in_ok-files.ensures.asks bucket (subst (λ f. IsBeside f bucket) (sym named) (beside_is bucket is c.args.kind)))))
 
 pub returns-in-Segments-clause-asks : goal.returns-in-Segments-clause-asks
-returns-in-Segments-clause-asks g c =
-    rw (c.in-Segments.is) (asks_made _ (λ old new sound stray cleared. segments_cleared c.args.bucket.now c.requires.bucket old new c.in_ok-files.files stray cleared) (rw (c.requires.folder, c.in-Segments.is) at c.in_ok-files.ensures.asks))
+returns-in-Segments-clause-asks g c = λ bucket is named.
+    rw (c.in-Segments.is) (asks_made _ (λ old new sound stray cleared. segments_cleared bucket is old new c.in_ok-files.files stray cleared) (rw (named, c.in-Segments.is) at (c.in_ok-files.ensures.asks bucket (subst (λ f. IsBeside f bucket) (sym named) (beside_is bucket is c.args.kind)))))
 
 pub returns-in-Records-clause-tallies : goal.returns-in-Records-clause-tallies
 returns-in-Records-clause-tallies g c =

@@ -1,6 +1,6 @@
 use Rattle.std.proofs.Common.{sym, subst}
 use Rattle.swift_calls.specs.Step.{Fit}
-use Rattle.swift_calls.specs.declared.calls.SwiftRequest.TheVariants.{PutObject}
+use Rattle.swift_calls.specs.Files.{PutObject}
 use Rattle.sweep.proofs.AgesOne.{dated_fits}
 use Rattle.sweep.proofs.forget.dated_record_request.Goals as goal
 

@@ -12,15 +12,15 @@ returns-in_default-read_upload_id_to_find-clause-asks g c =
     let reads : ReadsId c.args.text.now None = subst (ReadsId c.args.text.now) c.in_default-read_upload_id_to_find.is (subst (λ t. ReadsId t c.read_upload_id_to_find.result) c.as_slice.ensures c.read_upload_id_to_find.ensures) in
     asks_as (lit≤ tt) _
     (λ tree sound settled told.
-    let there = there_of tree _ c.in-Some.field-0 c.requires settled (subst (TellsBucket _ (s3_state tree)) c.in-Some.is told) in
-    record { settled = settled; there = there; none = λ content_type meta started is. no_record tree _ _ _ c.requires sound there reads is })
+    let there = there_of tree _ c.in-Some.field-0 c.fits.ensures settled (subst (TellsBucket _ (s3_state tree)) c.in-Some.is told) in
+    record { settled = settled; there = there; none = λ content_type meta started is. no_record tree _ _ _ c.fits.ensures sound there reads is })
     c.in_ok-head_bucket.ensures.asks
 
 pub returns-clause-asks : goal.returns-clause-asks
 returns-clause-asks g c =
     let reads : ReadsId c.args.text.now (Some c.in-Some-read_upload_id_to_find.id) = subst (ReadsId c.args.text.now) c.in-Some-read_upload_id_to_find.is (subst (λ t. ReadsId t c.read_upload_id_to_find.result) c.as_slice.ensures c.read_upload_id_to_find.ensures) in
     asks_on {rest = GivenOf (InBucket c.args.bucket.now)} {m = 1} (lit≤ tt) c.in_ok-head_bucket.ensures.asks
-    (λ tree settled told. record { settled = settled; is = there_of tree _ c.in-Some.field-0 c.requires settled (subst (TellsBucket _ (s3_state tree)) c.in-Some.is told) })
+    (λ tree settled told. record { settled = settled; is = there_of tree _ c.in-Some.field-0 c.fits.ensures settled (subst (TellsBucket _ (s3_state tree)) c.in-Some.is told) })
     (rw reads c.find_upload_by_id.ensures.asks)
 
 pub returns-clause-by_text : goal.returns-clause-by_text

@@ -15,7 +15,7 @@ returns-in_err-prefix-clause-asks g c = not_asked _ _ _ c.from_residual-in_err-p
 
 pub call-requires : goal.call-requires
 call-requires g c = (
-  subst IsContainerName (sym (c.in_ok-container.ensures ∙ ap segments_name c.as_slice.ensures)) (segments_fits c.args.bucket.now c.requires),
+  subst IsContainerName (sym (c.in_ok-container.ensures ∙ ap segments_name c.bytes.ensures.value)) (segments_fits c.args.bucket.now c.bytes.ensures.fit),
   subst IsMarker (sym c.in_ok-prefix.ensures) (prefix_is_marker c.args.id),
   subst IsMarker (sym c.new.ensures) no_marker,
   (omega arith, omega arith),
@@ -23,10 +23,10 @@ call-requires g c = (
 
 pub returns-in_err-reply-clause-asks : goal.returns-in_err-reply-clause-asks
 returns-in_err-reply-clause-asks g c =
-    asked_of_in_vain (segmented c.args.bucket.now c.args.id (c.in_ok-container.ensures ∙ ap segments_name c.as_slice.ensures) c.in_ok-prefix.ensures c.new.ensures c.requires)
+    asked_of_in_vain (segmented c.args.bucket.now c.args.id (c.in_ok-container.ensures ∙ ap segments_name c.bytes.ensures.value) c.in_ok-prefix.ensures c.new.ensures c.bytes.ensures.fit)
     c.in_err-reply.ensures.calls _ c.from_residual-in_err-reply.ensures.1
 
 pub returns-clause-asks : goal.returns-clause-asks
 returns-clause-asks g c =
-    asked_of (segmented c.args.bucket.now c.args.id (c.in_ok-container.ensures ∙ ap segments_name c.as_slice.ensures) c.in_ok-prefix.ensures c.new.ensures c.requires)
+    asked_of (segmented c.args.bucket.now c.args.id (c.in_ok-container.ensures ∙ ap segments_name c.bytes.ensures.value) c.in_ok-prefix.ensures c.new.ensures c.bytes.ensures.fit)
     c.in_ok-reply.ensures.calls _ (inr c.is_taken_by_segment_reply.ensures.due) c.is_taken_by_segment_reply.ensures.own

@@ -19,25 +19,25 @@ returns-in_err-folder-clause-asks g c = not_asked _ _ _ c.from_residual.ensures.
 
 pub settled_file_page-requires-clause-folder : goal.settled_file_page-requires-clause-folder
 settled_file_page-requires-clause-folder g c =
-    subst IsContainerName (sym (c.as_slice-2.ensures ∙ c.in_ok-folder.ensures ∙ ap uploads_name c.as_slice.ensures)) (uploads_fits c.args.bucket.now c.requires.name)
+    subst IsContainerName (sym (c.as_slice.ensures ∙ c.in_ok-folder.ensures ∙ ap uploads_name c.bytes.ensures.value)) (uploads_fits c.args.bucket.now c.bytes.ensures.fit)
 
 pub settled_file_page-requires-clause-prefix : goal.settled_file_page-requires-clause-prefix
 settled_file_page-requires-clause-prefix g c = no_marker
 
 pub returns-in_err-add_ids-clause-asks : goal.returns-in_err-add_ids-clause-asks
 returns-in_err-add_ids-clause-asks g c =
-    not_added id_due (uploads_name c.args.bucket.now) [] c.args.marker.now (InBucket c.args.bucket.now) (all_ids c.args.bucket.now c.args.marker.now c.requires.name)
-    (as_page _ _ _ _ _ _ (c.as_slice-2.ensures ∙ c.in_ok-folder.ensures ∙ ap uploads_name c.as_slice.ensures) refl c.as_slice-3.ensures c.in_ok-page.ensures.asks)
-    c.args.ids.now c.add_ids.new.ids id_due c.as_slice-4.result.now refl c.as_slice-4.ensures _ c.in_err-add_ids.ensures _ c.from_residual-in_err-add_ids.ensures.1
+    not_added id_due (uploads_name c.args.bucket.now) [] c.args.marker.now (InBucket c.args.bucket.now) (all_ids c.args.bucket.now c.args.marker.now c.bytes.ensures.fit)
+    (as_page _ _ _ _ _ _ (c.as_slice.ensures ∙ c.in_ok-folder.ensures ∙ ap uploads_name c.bytes.ensures.value) refl c.as_slice-2.ensures c.in_ok-page.ensures.asks)
+    c.args.ids.now c.add_ids.new.ids id_due c.as_slice-3.result.now refl c.as_slice-3.ensures _ c.in_err-add_ids.ensures _ c.from_residual-in_err-add_ids.ensures.1
 
 pub returns-clause-is_marker : goal.returns-clause-is_marker
 returns-clause-is_marker g c =
-    next_may_be [] c.in_ok-page.page c.in_ok-next_marker.field-0 (c.in_ok-next_marker.ensures ∙ ap (λ page. next_after (map name_in page)) c.as_slice-5.ensures) c.in_ok-page.ensures.page.named
+    next_may_be [] c.in_ok-page.page c.in_ok-next_marker.field-0 (c.in_ok-next_marker.ensures ∙ ap (λ page. next_after (map name_in page)) c.as_slice-4.ensures) c.in_ok-page.ensures.page.named
 
 pub returns-clause-asks : goal.returns-clause-asks
 returns-clause-asks g c =
     asks_told (λ tree has. tt) c.in_ok-next_marker.field-0
     (λ tree sound has tells. tells_next id_due (uploads_name c.args.bucket.now) [] c.args.marker.now tree c.in_ok-page.page tells c.args.ids.now c.add_ids.new.ids
-    (c.in_ok-add_ids.ensures ∙ ap (λ page. c.args.ids.now ++ filter_map id_due page) c.as_slice-4.ensures)
-    c.in_ok-next_marker.field-0 (c.in_ok-next_marker.ensures ∙ ap (λ page. next_after (map name_in page)) c.as_slice-5.ensures))
-    (as_page _ _ _ _ _ _ (c.as_slice-2.ensures ∙ c.in_ok-folder.ensures ∙ ap uploads_name c.as_slice.ensures) refl c.as_slice-3.ensures c.in_ok-page.ensures.asks)
+    (c.in_ok-add_ids.ensures ∙ ap (λ page. c.args.ids.now ++ filter_map id_due page) c.as_slice-3.ensures)
+    c.in_ok-next_marker.field-0 (c.in_ok-next_marker.ensures ∙ ap (λ page. next_after (map name_in page)) c.as_slice-4.ensures))
+    (as_page _ _ _ _ _ _ (c.as_slice.ensures ∙ c.in_ok-folder.ensures ∙ ap uploads_name c.bytes.ensures.value) refl c.as_slice-2.ensures c.in_ok-page.ensures.asks)

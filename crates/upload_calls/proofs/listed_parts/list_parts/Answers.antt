@@ -10,7 +10,7 @@ use Rattle.upload_calls.proofs.listed_parts.list_parts.Goals.{then-max-eq0-via-t
 
 pub returns-then-max-eq0-clause-asks : goal.returns-then-max-eq0-clause-asks
 returns-then-max-eq0-clause-asks g c =
-    none_listed _ _ c.args.bucket.now c.args.id c.args.marker c.args.max c.requires.name
+    none_listed _ _ c.args.bucket.now c.args.id c.args.marker c.args.max c.fits.ensures
     (elim c.then-max-eq0.branch [
       | then-max-eq0-via-then-max-eq0 w ↦ inl w.if-max-eq0.true
       | then-max-eq0-via-else-max-eq0+then-marker-ge-GREATEST_PART_NUMBER w ↦ inr (great_marker c.args.marker w.if-marker-ge-GREATEST_PART_NUMBER.true)
@@ -37,12 +37,12 @@ returns-in_err-next-clause-asks g c =
 
 pub returns-in-None-clause-asks : goal.returns-in-None-clause-asks
 returns-in-None-clause-asks g c =
-    parting_end c.args.bucket.now c.args.id c.args.marker c.pages.invariant.walked c.in_ok-next.ensures.asks c.requires.name c.args.max
+    parting_end c.args.bucket.now c.args.id c.args.marker c.pages.invariant.walked c.in_ok-next.ensures.asks c.fits.ensures c.args.max
     (subst (IsEnough c.args.max c.next_parts.new.parts) (sym c.in-None.is) tt) c.first_listed_parts.result c.first_listed_parts.ensures.cut
 
 pub returns-then-len-max-clause-asks : goal.returns-then-len-max-clause-asks
 returns-then-len-max-clause-asks g c =
-    parting_end c.args.bucket.now c.args.id c.args.marker c.pages.invariant.walked c.in_ok-next.ensures.asks c.requires.name c.args.max
+    parting_end c.args.bucket.now c.args.id c.args.marker c.pages.invariant.walked c.in_ok-next.ensures.asks c.fits.ensures c.args.max
     (subst (IsEnough c.args.max c.next_parts.new.parts) (sym c.in-Some.is) (omega (arith, c.if-len-max.true, c.len.ensures))) c.first_listed_parts-then-len-max.result c.first_listed_parts-then-len-max.ensures.cut
 
 pub pages-preserved : goal.pages-preserved

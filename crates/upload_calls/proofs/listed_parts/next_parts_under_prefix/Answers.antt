@@ -18,7 +18,7 @@ returns-in_err-page-clause-asks g c = λ id named. asks_fault (λ tree has. tt) 
 pub returns-in_err-add_parts-clause-asks : goal.returns-in_err-add_parts-clause-asks
 returns-in_err-add_parts-clause-asks g c = λ id named.
     not_added (part_due (segments_prefix (id_digits id))) (segments_name c.args.bucket.now) (segments_prefix (id_digits id)) c.args.marker.now (HasOnlyParts c.args.bucket.now id)
-    (all_parts c.args.bucket.now id c.args.marker.now c.requires.name)
+    (all_parts c.args.bucket.now id c.args.marker.now c.fits.ensures)
     (as_page _ _ _ _ _ _ refl named refl c.in_ok-page.ensures.asks)
     c.args.parts.now c.add_parts.new.parts (part_due c.as_slice.result.now) c.as_slice-2.result.now (ap part_due (c.as_slice.ensures ∙ named)) c.as_slice-2.ensures
     _ c.in_err-add_parts.ensures.due _ c.from_residual-in_err-add_parts.ensures.1

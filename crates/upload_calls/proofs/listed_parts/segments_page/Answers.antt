@@ -11,11 +11,11 @@ returns-in_err-folder-clause-asks g c = not_asked _ _ _ c.from_residual.ensures.
 
 pub settled_file_page-requires-clause-folder : goal.settled_file_page-requires-clause-folder
 settled_file_page-requires-clause-folder g c =
-    subst IsContainerName (sym (c.as_slice-2.ensures ∙ c.in_ok-folder.ensures ∙ ap segments_name c.as_slice.ensures)) (segments_fits c.args.bucket.now c.requires.name)
+    subst IsContainerName (sym (c.as_slice.ensures ∙ c.in_ok-folder.ensures ∙ ap segments_name c.bytes.ensures.value)) (segments_fits c.args.bucket.now c.bytes.ensures.fit)
 
 pub returns-clause-page : goal.returns-clause-page
-returns-clause-page g c = rw (c.as_slice-3.ensures, c.as_slice-4.ensures) at c.settled_file_page.ensures.page
+returns-clause-page g c = rw (c.as_slice-2.ensures, c.as_slice-3.ensures) at c.settled_file_page.ensures.page
 
 pub returns-clause-asks : goal.returns-clause-asks
 returns-clause-asks g c =
-    as_page _ _ _ _ _ _ (c.as_slice-2.ensures ∙ c.in_ok-folder.ensures ∙ ap segments_name c.as_slice.ensures) c.as_slice-3.ensures c.as_slice-4.ensures c.settled_file_page.ensures.asks
+    as_page _ _ _ _ _ _ (c.as_slice.ensures ∙ c.in_ok-folder.ensures ∙ ap segments_name c.bytes.ensures.value) c.as_slice-2.ensures c.as_slice-3.ensures c.settled_file_page.ensures.asks

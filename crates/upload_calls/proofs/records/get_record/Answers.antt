@@ -15,17 +15,17 @@ returns-in_err-name-clause-asks g c = not_asked _ _ _ c.from_residual-in_err-nam
 
 pub call-requires : goal.call-requires
 call-requires g c = (
-  subst IsContainerName (sym (c.in_ok-container.ensures ∙ ap uploads_name c.as_slice.ensures)) (uploads_fits c.args.bucket.now c.requires),
+  subst IsContainerName (sym (c.in_ok-container.ensures ∙ ap uploads_name c.bytes.ensures.value)) (uploads_fits c.args.bucket.now c.bytes.ensures.fit),
   subst IsObjectName (sym (c.in_ok-name.ensures ∙ c.id_digits.ensures)) (id_fits c.args.id),
   tt,
 )
 
 pub returns-in_err-reply-clause-asks : goal.returns-in_err-reply-clause-asks
 returns-in_err-reply-clause-asks g c =
-    asked_of_in_vain (record_reads c.args.bucket.now c.args.id (c.in_ok-container.ensures ∙ ap uploads_name c.as_slice.ensures) (c.in_ok-name.ensures ∙ c.id_digits.ensures) c.requires)
+    asked_of_in_vain (record_reads c.args.bucket.now c.args.id (c.in_ok-container.ensures ∙ ap uploads_name c.bytes.ensures.value) (c.in_ok-name.ensures ∙ c.id_digits.ensures) c.bytes.ensures.fit)
     c.in_err-reply.ensures.calls _ c.from_residual-in_err-reply.ensures.1
 
 pub returns-clause-asks : goal.returns-clause-asks
 returns-clause-asks g c =
-    asked_of (record_reads c.args.bucket.now c.args.id (c.in_ok-container.ensures ∙ ap uploads_name c.as_slice.ensures) (c.in_ok-name.ensures ∙ c.id_digits.ensures) c.requires)
+    asked_of (record_reads c.args.bucket.now c.args.id (c.in_ok-container.ensures ∙ ap uploads_name c.bytes.ensures.value) (c.in_ok-name.ensures ∙ c.id_digits.ensures) c.bytes.ensures.fit)
     c.in_ok-reply.ensures.calls _ c.record_in.ensures.due c.record_in.ensures.own

@@ -17,7 +17,7 @@ returns-in_err-reply-clause-changes g c =
       same = c.in_ok-request.ensures.request;
       reads = c.in_ok-text.ensures.reads;
       short = c.in_ok-text.ensures.short;
-      is = c.requires.name;
+      is = c.fits.ensures;
       fits = c.ranges.id.fits;
     })) c.in_err-reply.ensures.calls _ c.from_residual-in_err-reply.ensures.1
 
@@ -27,7 +27,7 @@ returns-clause-changes g c =
       same = c.in_ok-request.ensures.request;
       reads = c.in_ok-text.ensures.reads;
       short = c.in_ok-text.ensures.short;
-      is = c.requires.name;
+      is = c.fits.ensures;
       fits = c.ranges.id.fits;
     })) c.in_ok-reply.ensures.calls _
     (c.interpret_put_with_etag.ensures.due ∙ ap (λ etag. stored_due etag c.in_ok-reply.reply) (c.body_etag-etag.ensures ∙ ap body_etag c.as_slice.ensures)) c.interpret_put_with_etag.ensures.own

@@ -1,4 +1,4 @@
-use Rattle.std.proofs.Common.{◌≡◌, ◌+◌, ◌-◌, ◌^◌, [], min, length, sym, ap, ◌∙◌, arith}
+use Rattle.std.proofs.Common.{◌≡◌, ◌+◌, ◌-◌, ◌^◌, [], min, sym, ap, ◌∙◌, arith}
 use Rattle.name_table.proofs.lemmas.Ordered.{entries_are}
 use Rattle.s3_native.proofs.Forgotten.{old_among, old_among_all, old_among_more, saturates}
 use Rattle.s3_native.proofs.forgetting.Named+NativeBucket.count_older_in_each.Goals as goal

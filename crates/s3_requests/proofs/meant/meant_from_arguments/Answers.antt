@@ -1,0 +1,6 @@
+use Rattle.std.proofs.Common.{rules}
+use Rattle.s3_requests.proofs.Left.{goes_on}
+use Rattle.s3_requests.proofs.meant.meant_from_arguments.Goals as goal
+
+pub meant_from_source-requires-clause-left : goal.meant_from_source-requires-clause-left
+meant_from_source-requires-clause-left c = goes_on (goes_on (goes_on (goes_on c.requires.left (search rules)) (search rules)) (search rules)) (search rules)
