@@ -23,6 +23,7 @@ import os
 import queue
 import random
 import re
+import resource
 import shutil
 import signal
 import socket
@@ -136,8 +137,9 @@ PROCESSES = set()
 class Program:
     """A program that runs until it ends or the block does."""
 
-    def __init__(self, words, variables):
-        self.process = subprocess.Popen(words, env=variables, stdin=subprocess.DEVNULL, stdout=subprocess.PIPE, stderr=subprocess.PIPE)
+    def __init__(self, words, variables, descriptors=None):
+        limit = (lambda: resource.setrlimit(resource.RLIMIT_NOFILE, (descriptors, descriptors))) if descriptors else None
+        self.process = subprocess.Popen(words, env=variables, stdin=subprocess.DEVNULL, stdout=subprocess.PIPE, stderr=subprocess.PIPE, preexec_fn=limit)
         PROCESSES.add(self.process)
 
     def __enter__(self):
@@ -166,10 +168,10 @@ class Program:
 class Gate(Program):
     """`s3gate serve` over the store at that place, with further words."""
 
-    def __init__(self, store, connections=1000000, place=None, words=(), **variables):
+    def __init__(self, store, connections=1000000, place=None, words=(), descriptors=None, **variables):
         self.place = place or PLACES.take()
         usual = {"S3GATE_KEYS": KEYS, "S3GATE_LISTEN": "%s:%d" % self.place, "S3GATE_STORE": store, "S3GATE_ACCOUNT": ACCOUNT, "S3GATE_TOKEN": TOKEN, "S3GATE_LOG": "off"}
-        super().__init__([S3GATE, "serve", "--connections", str(connections), *words], {name: text for name, text in {**usual, **variables}.items() if text is not None})
+        super().__init__([S3GATE, "serve", "--connections", str(connections), *words], {name: text for name, text in {**usual, **variables}.items() if text is not None}, descriptors)
 
     def client(self, *requests):
         return Client(self, *requests)
@@ -422,6 +424,8 @@ def words_and_environment_of_s3gate(check):
     for name, most in (("S3GATE_IDLE", 86400), ("S3GATE_STORE_TIMEOUT", 86400), ("S3GATE_AHEAD", 65536)):
         for text in ("", "0", "-1", "1s", " 1", "1.5", str(most + 1), "18446744073709551616"):
             check(f"{name} {text!r}", (9, b"", SETUP + f"{name}: not a number from 1 to {most}\n".encode()), ran(S3GATE, ["serve"], **{**usual, name: text}))
+    for text in ("", "-1", "1k", "1048577"):
+        check(f"S3GATE_FLOOR {text!r}", (9, b"", SETUP + b"S3GATE_FLOOR: not a number from 0 to 1048576\n"), ran(S3GATE, ["serve"], **{**usual, "S3GATE_FLOOR": text}))
     for size, ahead in ((67108865, None), (16777217, "15"), (1073741824, "1023")):
         given = {**usual, **({"S3GATE_AHEAD": ahead} if ahead else {})}
         check(f"--largest-body {size} with S3GATE_AHEAD {ahead}", (9, b"", SETUP + f"S3GATE_AHEAD: holds no body of so many bytes: {size}\n".encode()), ran(S3GATE, ["serve", "--largest-body", str(size)], **given))
@@ -711,9 +715,67 @@ def silent_clients_end_at_the_limit(check):
             check("not before the limit", True, client.took() > IDLE * ALMOST)
         asked = request("PUT", "/photos/k", [("Expect", "100-continue")], b"abc", length=9)
         with gate.client(asked) as client:
-            check("a client that stops within a body is ended, behind the interim line", [100, None], client.replies(2))
+            check("a client that stops within a body is told so, behind the interim line", [100, (400, "RequestTimeout"), None], client.replies(3))
             check("not before the limit", True, client.took() > IDLE * ALMOST)
+        with gate.client(request("HEAD", "/photos/k", [("Content-Length", "9")])) as client:
+            check("a reply to HEAD would have no body, so there is none", None, client.reply())
         check("and another is served", FOUND, both(gate.ask(*GET, owner=False)))
+
+
+@group(line="side by side", first=True)
+def who_does_not_move_holds_nobody(check):
+    """Past the room, here 1 MiB and what two readings go past it, a request is served as it comes, and the line waits for it while nobody
+    else waits."""
+    put = request("PUT", "/photos/k", body=bytes(6 * MEBIBYTE))
+    ask = request(*GET, owner=False, close=True)
+    with Store(account=account()) as store, Gate(store.text, S3GATE_AHEAD="1", S3GATE_LOG="on") as gate:
+        for title, sent, more in (("stops", put[:-9], b""), ("drips", put[: 11 * MEBIBYTE // 2], b"z")):
+            with gate.client(sent) as client:
+                time.sleep(0.5)
+                with gate.client(ask) as other:
+                    for _ in range(3 if more else 0):
+                        time.sleep(1)
+                        client.send(more)
+                    check(f"beside one that {title} another is served", ["abc", None], other.replies(2))
+                    check("within some five seconds", True, other.took() < SOON)
+                check("and that one is told so", [(400, "RequestTimeout"), None], client.replies(2))
+        gate.signal(signal.SIGTERM)
+        told = log_of(gate.ended()[1])
+        check("which the log says", ["PUT /photos/k 400 - slow 0"] * 2, [it.split(" ", 1)[1] for it in told if "PUT" in it])
+    with Store(account=account()) as store, Gate(store.text, S3GATE_AHEAD="1", S3GATE_FLOOR="0") as gate, gate.client(put[:-9]) as client:
+        time.sleep(0.5)
+        with gate.client(ask) as other:
+            other.stream.settimeout(7)
+            with contextlib.suppress(TimeoutError):
+                other.more()
+            check("without a floor it is waited for", b"", other.came)
+            other.stream.settimeout(PATIENCE)
+            client.reset()
+            check("until it goes away", ["abc", None], other.replies(2))
+
+
+@group(line="side by side")
+def who_stops_within_a_body_is_logged(check):
+    with Store(account=account()) as store, Gate(store.text, 2, S3GATE_IDLE=str(IDLE), S3GATE_LOG="on") as gate:
+        with gate.client(request("PUT", "/photos/k", body=b"abc", length=9)) as client:
+            got = client.rest()
+        check("the reply's length is that of its body", int(re.search(rb"Content-Length: (\d+)", got)[1]), len(got.partition(b"\r\n\r\n")[2]))
+        check("and another is served", FOUND, both(gate.ask(*GET, owner=False)))
+        told = log_of(gate.ended()[1])
+        check("the log has its line", f"1 PUT /photos/k 400 - {len(got)} 0", told[0])
+
+
+@group(line="side by side")
+def descriptors_are_kept_for_the_store(check):
+    """However few there are, clients leave some for it."""
+    for count in (8, 16, 32, 64):
+        with Store(account=account()) as store, Gate(store.text, descriptors=count) as gate:
+            asked = request(*GET, owner=False, close=True)
+            with contextlib.ExitStack() as stack:
+                clients = [stack.enter_context(gate.client()) for _ in range(60)]
+                for client in clients:
+                    client.send(asked)
+                check(f"60 clients at once with {count} descriptors", ["abc"] * 60, [client.replies(1)[0] for client in clients])
 
 
 def send_slowly(client, data):
@@ -891,6 +953,9 @@ def nothing_follows_a_reply_that_closes(check):
         ):
             with gate.client(asked + following) as client:
                 check(f"behind the reply to {title} comes nothing", 1, client.rest().count(b"HTTP/1.1 "))
+        for title, headers in (("of which one is bad", [("bad header", "x")]), ("with a control", [("A", "a\0")]), ("of more than 100", [("A", "a")] * 99), ("with two lengths", [("Content-Length", "5")])):
+            with gate.client(request("PUT", "/photos/k", [("Expect", "100-continue"), *headers], length=5)) as client:
+                check(f"and before the reply to headers {title}", [(400, "InvalidRequest"), None], client.replies(2))
 
 
 @group(line="side by side")
@@ -898,12 +963,13 @@ def what_is_no_head_is_refused_at_once(check):
     """It isn't ended in silence at the limit of time. And what may still become one is waited for, while others are served."""
     asked = request(*GET, owner=False, close=True)
     with Store(account=account()) as store, Gate(store.text, S3GATE_IDLE=str(IDLE)) as gate:
-        for given in (b"\0\1", b"\x16\3\1\2\0", b"\r\n\r\n(", b"GET / HTTP/9\r\n", b"GET /\n", b"HELLO\r\n", b" GET / HTTP/1.1\r\n"):
+        for given in (b"\0\1", b"\x16\3\1\2\0", b"\r\n\r\n(", b"GET / HTTP/9\r\n", b"GET /\n", b"HELLO\r\n", b" GET / HTTP/1.1\r\n", b"GET  /", b"GET /\xff HTTP", b"GET / HTTP/1.1\r\nbad header: x\r\n", b"GET / HTTP/1.1\r\nHost: h\r\nbad ", b"GET / HTTP/1.0\nHost: a\0", b"GET / HTTP/1.1\r\nnone\r\n", b"GET / HTTP/1.1\r\n: x\r\n", b"GET / \r", b"GET /\ra"):
             with gate.client(given) as client:
                 check(f"{given} is refused", [(400, "InvalidRequest"), None], client.replies(2))
     with Store(account=account()) as store, Gate(store.text, S3GATE_IDLE=str(LONG)) as gate:
         long = b"GET /" + b"a" * 4100
-        for given, rest in ((b"\r\n", asked), (asked[:1], asked[1:]), (long, b" HTTP/1.0\r\n\r\n"), (long + b" HTTP/9\r\n", b"\r\n")):
+        front = b"GET /photos/a HTTP/1.1\r\nHost: h\r\n"
+        for given, rest in ((b"\r\n", asked), (asked[:1], asked[1:]), (long, b" HTTP/1.0\r\n\r\n"), (long + b" HTTP/9\r\n", b"\r\n"), (b"GET /\xff", b" HTTP/1.1\r\n"), (front + b"a.b!:", b"\t\x80\r\n\r\n"), (front + b"a", b": x\r\n\r\n"), (front + b"\r", b"\n"), (front[:21], front[21:] + b"\r\n")):
             with gate.client(given) as client, gate.client(asked) as other:
                 check(f"beside a client that sent {given[:20]} another is served", ["abc", None], other.replies(2))
                 check("soon", True, other.took() < SOON)
@@ -960,7 +1026,7 @@ def swift(method, target, headers=(), body=b"", token=TOKEN):
 # The log.
 
 MOMENT = rb"(\d{4}-\d\d-\d\dT\d\d:\d\d:\d\d\.\d{3}Z) "
-LOGGED = re.compile(MOMENT + rb"(.*) (\d+) (127\.0\.0\.1:\d+) (-|[0-9A-Za-z]{1,128})")
+LOGGED = re.compile(MOMENT + rb"(.*) (\d+) (127\.0\.0\.1:\d+) (-|[0-9A-Za-z]{1,128}) (\d+)")
 # The second line for a reply, and the first and the last ones of a run.
 SECOND = re.compile(MOMENT + rb"(\d+ (?:not implemented|inconsistent):.*)")
 SAID = re.compile(MOMENT + rb"(s3gate(?: \d+\.\d+\.\d+)?: .*)")
@@ -1002,7 +1068,7 @@ KINDS = [
 
 
 def log_of(report, who=None):
-    """The lines of the log for replies: what stands between the time and the milliseconds, or what `who` makes of all. Each time is
+    """The lines of the log for replies: what stands between the time and the first milliseconds, or what `who` makes of all. Each time is
     that of now. First and last lines of the run and second lines of replies are left out."""
     found, now = [], datetime.datetime.now(datetime.timezone.utc)
     for line in report.splitlines():
@@ -1010,7 +1076,7 @@ def log_of(report, who=None):
             continue
         it = LOGGED.fullmatch(line)
         time_ = datetime.datetime.strptime(it[1].decode(), "%Y-%m-%dT%H:%M:%S.%fZ").replace(tzinfo=datetime.timezone.utc)
-        assert abs((now - time_).total_seconds()) < 60 and int(it[3]) < 60000, line
+        assert abs((now - time_).total_seconds()) < 60 and int(it[3]) < 60000 and int(it[6]) < 60000, line
         found.append(who(it) if who else it[2].decode())
     return found
 
@@ -1219,7 +1285,7 @@ def version():
 @group()
 def the_log_begins_and_ends(check):
     with Store(account=account()) as store:
-        variables = {"S3GATE_LOG": "on", "S3GATE_IDLE": "7", "S3GATE_AHEAD": "3", "S3GATE_STORE_TIMEOUT": "11"}
+        variables = {"S3GATE_LOG": "on", "S3GATE_IDLE": "7", "S3GATE_AHEAD": "3", "S3GATE_FLOOR": "9", "S3GATE_STORE_TIMEOUT": "11"}
         for given, keys, more in (
             ({}, 1, []),
             ({"S3GATE_KEYS": "/dev/null"}, 0, ["s3gate: no key in the file of S3GATE_KEYS: every request is anonymous"]),
@@ -1229,7 +1295,7 @@ def the_log_begins_and_ends(check):
             with Gate(store.text, 1, words=["--region", "eu", "--least-part", "5"], **usual) as gate:
                 check("a request is answered", FOUND, both(gate.ask(*GET, owner=False)))
                 status, report = gate.ended()
-            first = "s3gate %s: listens at %s:%d, store %s, account %s, %d keys, region eu, connections 1, least part 5, idle 7 s, ahead 3 MiB, store timeout 11 s" % (version(), *gate.place, store.text, ACCOUNT, keys)
+            first = "s3gate %s: listens at %s:%d, store %s, account %s, %d keys, region eu, connections 1, least part 5, idle 7 s, ahead 3 MiB, floor 9 KiB, store timeout 11 s" % (version(), *gate.place, store.text, ACCOUNT, keys)
             last = "s3gate: ended behind the last of its turns: --connections is 1"
             check(f"the first and the last lines with {given}", (0, [first, *more, last]), (status, said_in(report, SAID)))
             check("and no token", False, TOKEN.encode() in report)
@@ -1564,9 +1630,13 @@ def limits_of_time_of_the_store(check):
             check("is waited for up to the limit, and asked once", (True, number), (client.took() > SILENCE * ALMOST, len(store.calls)))
         client.send(request(*GET, owner=False))
         check("and once it answers the next request is served", FOUND, both(client.reply()))
-    slow = raw(*(bytes([it]) for it in http(200, LIKE, b"abc")[:4]), http(200, LIKE, b"abc")[4:], pause=SILENCE * 0.3)
-    with Store({SETTLING + 3: slow}, account=account()) as store, Gate(store.text, S3GATE_STORE_TIMEOUT=str(SILENCE)) as gate:
-        check("a store that is slow and never silent for so long", FOUND, both(gate.ask(*GET, owner=False)))
+    found = http(200, LIKE, b"abc")
+    slow, drips = (raw(*(found[at : at + 1] for at in range(count)), found[count:], pause=SILENCE * 0.3) for count in (2, 12))
+    with Store({SETTLING + 3: slow, SETTLING + 4: drips}, account=account()) as store, Gate(store.text, S3GATE_STORE_TIMEOUT=str(SILENCE)) as gate:
+        check("a store that is slow, and within the limit in all", FOUND, both(gate.ask(*GET, owner=False)))
+        with gate.client(request(*GET, owner=False)) as client:
+            check("one that is never silent, and past it", unavailable, brief(client.reply()))
+            check("is given up at the limit", True, SILENCE * ALMOST < client.took() < SILENCE * 2)
 
 
 @group(first=True)

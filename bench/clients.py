@@ -17,9 +17,10 @@ with servers of its own; without PART all of them. The big object has 16 MiB unl
   ahead     uploads and slow readers past S3GATE_AHEAD=1
   gone      a client that goes away in each state, 20 times each, and the descriptors and the memory before and after
   churn     10,000 connections of five kinds: descriptors and memory
-  places    1,100 silent connections, and 60 with 40 descriptors
+  places    1,100 silent connections, and 60 with 8 to 64 descriptors
   finish    a large reply that is still on its way when the last connection was served
   boto3     2, 8 and 32 clients of boto3, for N seconds each (5), directly and, where nginx is installed, through it
+  floor     a small GET each half second beside clients that drip, stop or are slow: how long each waits, and who is ended
   turns     2, 8, 32 and 64 clients, one of which sends 1,000 requests ahead all the time: the longest that another waits,
             beside the sum of one request of each
 
@@ -535,12 +536,13 @@ def part_places():
         tell(f"places: 1100 silent connections: {gate.use()[0]} descriptors; a small GET {first:.0f} ms, the next {then:.0f} ms", first < 5000)
         for it in others:
             it.close()
-    with Gate(descriptors=40) as gate:
-        others = [gate.connect() for _ in range(60)]
-        took = gate.ask()
-        tell(f"places: 60 silent connections with 40 descriptors: a small GET {took:.0f} ms", gate.gate.poll() is None)
-        for it in others:
-            it.close()
+    for count in (8, 16, 40, 64):
+        with Gate(descriptors=count) as gate:
+            others = [gate.connect() for _ in range(60)]
+            took = gate.ask()
+            tell(f"places: 60 silent connections with {count} descriptors: a small GET {took:.0f} ms", gate.gate.poll() is None)
+            for it in others:
+                it.close()
 
 
 def part_finish():
@@ -631,6 +633,120 @@ def part_boto3():
                 if shutil.which("nginx"):
                     with nginx(gate) as front:
                         boto_run("through nginx", front, number)
+
+
+class Probes:
+    """A small GET on a connection of its own each half second, until the end."""
+
+    def __init__(self, gate):
+        self.gate, self.took, self.lost, self.threads, self.ended = gate, [], 0, [], threading.Event()
+        self.main = threading.Thread(target=self.begin)
+        self.main.start()
+
+    def begin(self):
+        while not self.ended.wait(0.5):
+            self.threads.append(threading.Thread(target=self.ask))
+            self.threads[-1].start()
+
+    def ask(self):
+        try:
+            self.took.append(self.gate.ask(timeout=120) / 1e3)
+        except (OSError, AssertionError):
+            self.lost += 1
+
+    def end(self, most):
+        """The longest wait may be so many seconds."""
+        self.ended.set()
+        self.main.join()
+        for it in self.threads:
+            it.join()
+        return f"{len(self.took)} small GETs {at(self.took, 0.5):.3f} s, at most {max(self.took):.1f}", max(self.took) < most and not self.lost
+
+
+def fill(it, data, quiet):
+    """Sends what goes, until nothing has gone for so many seconds."""
+    it.setblocking(False)
+    sent, last = 0, time.time()
+    while sent < len(data) and time.time() < last + quiet:
+        try:
+            sent += it.send(data[sent : sent + (1 << 20)])
+            last = time.time()
+        except BlockingIOError:
+            time.sleep(0.002)
+
+
+def drip(clients, seconds, step):
+    """A step for each client each three seconds, for so long."""
+    for _ in range(int(seconds / 3)):
+        time.sleep(3)
+        for it in clients:
+            with contextlib.suppress(OSError):
+                step(it)
+
+
+def part_floor():
+    for name, count, sent, quiet, seconds, drips, most in (
+        ("3 drip behind 15 MiB of a body", 3, 15 << 20, 1, 12, True, 0.5),
+        ("30 stop behind 1 MiB of 16", 30, 1 << 20, 0.1, 12, False, 0.5),
+        ("5 drip behind 15 MiB of a body", 5, 15 << 20, 1, 24, True, 5.5),
+        ("300 stop behind 1 MiB of 16", 300, 1 << 20, 0.1, 36, False, 5.5),
+        ("70 drip behind 1 MiB of 16", 70, 1 << 20, 0.1, 36, True, 5.5),
+    ):
+        with Gate() as gate:
+            gate.ask()
+            slow = [gate.connect() for _ in range(count)]
+            for it in slow:
+                fill(it, put(len(BIG)) + BIG[:sent], quiet)
+            probes = Probes(gate)
+            drip(slow, seconds, (lambda it: it.send(b"z")) if drips else (lambda it: None))
+            tell("floor: {0}: {1[0]}".format(name, told := probes.end(most)), told[1])
+            for it in slow:
+                it.close()
+    for name, count, variables, most in (("a reader of 16 MiB past 1 MiB drips", 1, {"S3GATE_AHEAD": "1"}, 6), ("2 readers of them drip", 2, {"S3GATE_AHEAD": "1"}, 7.5), ("8 readers of 16 MiB drip", 8, {}, 10)):
+        with Gate(big=True, **variables) as gate:
+            gate.ask()
+            slow = [gate.connect(room=4096) for _ in range(count)]
+            for it in slow:
+                it.sendall(b"GET /pub/big HTTP/1.1\r\nHost: x\r\n\r\n")
+                it.setblocking(False)
+            time.sleep(1)
+            probes = Probes(gate)
+            drip(slow, 24, lambda it: it.recv(4096))
+            tell("floor: {0}: {1[0]}".format(name, told := probes.end(most)), told[1])
+            for it in slow:
+                it.close()
+    with Gate() as gate:
+        probes, begun, got = Probes(gate), time.time(), []
+
+        def upload():
+            for _ in range(3):
+                with gate.connect(timeout=300) as it:
+                    it.sendall(put(len(BIG)) + BIG)
+                    got.append(status(reply(it)))
+
+        threads = [threading.Thread(target=upload) for _ in range(16)]
+        for thread in threads:
+            thread.start()
+        for thread in threads:
+            thread.join()
+        took, told = time.time() - begun, probes.end(5.5)
+        tell(f"floor: 16 uploaders of 3 times {len(BIG) >> 20} MiB: all after {took:.1f} s; {told[0]}", got == ["403"] * 48 and took < 30)
+    for rate, beside, size, stays in ((400, True, 6, True), (200, False, 3, True), (50, True, 5, False)):
+        with Gate(S3GATE_AHEAD="1") as gate, gate.connect() as slow:
+            gate.ask()
+            probes, begun, got, sent = Probes(gate) if beside else None, time.time(), b"", 0
+            data = put(size << 20) + bytes(size << 20)
+            try:
+                while sent < len(data):
+                    slow.sendall(data[sent : sent + rate * 51])
+                    sent += rate * 51
+                    time.sleep(max(0, sent / rate / 1024 - (time.time() - begun)))
+                got = reply(slow)
+            except OSError:
+                pass
+            took = time.time() - begun
+            told = probes.end(60)[0] if probes else "alone"
+            tell(f"floor: an upload of {size} MiB past 1 MiB, {rate} KiB a second: {status(got)} after {took:.1f} s; {told}", (status(got) == "403") == stays)
 
 
 def send_ahead(port, ready, ended):

@@ -17,6 +17,8 @@ pub enum Why {
     NotField,
     /// It isn't a number from 1 to this one.
     NotNumber(u64),
+    /// It isn't a number from 0 to this one.
+    NotCount(u64),
     /// It holds no body of so many bytes.
     BelowBody(u64),
     /// It is neither `on` nor `off`.
@@ -95,6 +97,7 @@ impl Why {
     fn number(self) -> Option<u64> {
         match self {
             Why::NotNumber(number)
+            | Why::NotCount(number)
             | Why::BelowBody(number)
             | Why::FewSegments(number)
             | Why::SmallObjects(number)
@@ -110,6 +113,7 @@ impl Why {
             Why::NotText => b"not UTF-8",
             Why::NotField => b"not 1 to 1024 bytes of visible ASCII",
             Why::NotNumber(_) => b"not a number from 1 to ",
+            Why::NotCount(_) => b"not a number from 0 to ",
             Why::BelowBody(_) => b"holds no body of so many bytes: ",
             Why::NotSwitch => b"neither on nor off",
             Why::Scheme => b"has a scheme, where HOST:PORT is wanted",

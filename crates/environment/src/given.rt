@@ -43,6 +43,22 @@ pub fn number_in_variable(
     }
 }
 
+/// The number that a variable says, from 0 to the most that there may be, or else the usual one.
+pub fn number_from_zero_in_variable(
+    rt: &HostRuntime,
+    name: &'static str,
+    usual: u64,
+    most: u64,
+) -> Result<u64, SetupFault> {
+    let Some(text) = variable(rt, name)? else {
+        return Ok(usual);
+    };
+    match text.as_str().parse::<u64>() {
+        Ok(number) if number <= most => Ok(number),
+        _ => Err(SetupFault::Variable(name, Why::NotCount(most))),
+    }
+}
+
 /// Whether a variable says `on`, as it does where it isn't there, or `off`.
 pub fn is_variable_on(rt: &HostRuntime, name: &'static str) -> Result<bool, SetupFault> {
     let Some(text) = variable(rt, name)? else {

@@ -96,7 +96,7 @@ fn values_that_sign_are_hidden(rt: HostRuntime) {
 }
 
 #[test]
-fn an_entry_has_eleven_fields(rt: HostRuntime) {
+fn an_entry_has_twelve_fields(rt: HostRuntime) {
     let peer: Option<SocketAddr> = "192.0.2.7:51234".parse().ok();
     assert!(rt; peer.is_some());
     let entry = Entry {
@@ -106,13 +106,15 @@ fn an_entry_has_eleven_fields(rt: HostRuntime) {
         status: b"200",
         id: b"c0ffee",
         bytes: Some(1834),
+        slow: false,
         calls: 3,
         took: 12,
         peer,
         key: Some(b"AKIA1"),
+        waited: 250,
     };
     let wanted: &[u8] =
-        b"2026-11-28T12:34:56.789Z 17 GET /photos/a 200 c0ffee 1834 3 12 192.0.2.7:51234 AKIA1\n";
+        b"2026-11-28T12:34:56.789Z 17 GET /photos/a 200 c0ffee 1834 3 12 192.0.2.7:51234 AKIA1 250\n";
     let line = log_entry_line(rt.alloc(), &entry);
     assert!(rt; line.is_ok_and(|line| line.as_slice() == wanted));
     let unknown = Entry {
@@ -122,13 +124,22 @@ fn an_entry_has_eleven_fields(rt: HostRuntime) {
         status: b"503",
         id: b"-",
         bytes: None,
+        slow: false,
         calls: 0,
         took: 0,
         peer: None,
         key: None,
+        waited: 0,
     };
-    let wanted: &[u8] = b"1970-01-01T00:00:00.000Z 1 - - 503 - - 0 0 - -\n";
+    let wanted: &[u8] = b"1970-01-01T00:00:00.000Z 1 - - 503 - - 0 0 - - 0\n";
     let line = log_entry_line(rt.alloc(), &unknown);
+    assert!(rt; line.is_ok_and(|line| line.as_slice() == wanted));
+    let slow = Entry {
+        slow: true,
+        ..unknown
+    };
+    let wanted: &[u8] = b"1970-01-01T00:00:00.000Z 1 - - 503 - slow 0 0 - - 0\n";
+    let line = log_entry_line(rt.alloc(), &slow);
     assert!(rt; line.is_ok_and(|line| line.as_slice() == wanted));
 }
 

@@ -3,7 +3,7 @@ ghost use Rattle.std.specs.Prelude.{IsTrue, false, []};
 
 use crate::loopback::{begin, client, gets, hears, listen};
 use gate_base::{Failed, Line, NoCount, Sink};
-use sockets::TcpLine;
+use sockets::{Bounds, TcpLine};
 use std::io::{Read, Write};
 use std::net::{Net, OpenListener, SocketAddr, TcpStream};
 use std::process::Abort;
@@ -34,14 +34,15 @@ const LOGGED: [&[u8]; 2] = [
 /// How many bytes the time of a line has.
 const TIME: usize = 24;
 
-/// How many bytes are read ahead or kept to be sent.
-const AHEAD: usize = 1_048_576;
-
-/// The most bytes of a body that is read ahead.
-const LARGEST: usize = 16_777_216;
-
-/// A limit of time in seconds that the test doesn't come to.
-const LONG: u64 = 30;
+/// The test doesn't come to the limit of time.
+const BOUNDS: Bounds = Bounds {
+    limit: 30,
+    ahead: 1_048_576,
+    largest: 16_777_216,
+    floor: 0,
+    places: 900,
+    timeout: b"",
+};
 
 /// Asks a line of sockets for its client.
 #[derive(Clone, Copy)]
@@ -50,6 +51,18 @@ struct SocketPeers;
 impl Peers<TcpLine<HostRuntime>> for SocketPeers {
     fn peer(&self, line: &TcpLine<HostRuntime>) -> Option<SocketAddr> {
         line.peer()
+    }
+
+    fn waited(&self, _line: &TcpLine<HostRuntime>) -> u64 {
+        0
+    }
+
+    fn was_slow(&self, line: &TcpLine<HostRuntime>) -> bool {
+        line.was_slow()
+    }
+
+    fn refusal(&self, line: &TcpLine<HostRuntime>) -> &'static [u8] {
+        line.refusal()
     }
 }
 
@@ -138,15 +151,7 @@ fn open_log<R: Net + Abort>(rt: &R) -> (StreamSink<R::Stream>, R::Stream) {
 fn a_reply_in_pieces_is_one(rt: HostRuntime) {
     let (listener, place) = listen(&rt);
     let own = rt.clone().expect(&rt, "a handle");
-    let made = TcpLine::<HostRuntime>::new(
-        own,
-        rt.alloc(),
-        listener,
-        LONG,
-        Some(1),
-        AHEAD,
-        LARGEST,
-    );
+    let made = TcpLine::<HostRuntime>::new(own, rt.alloc(), listener, Some(1), BOUNDS);
     let line = made.expect(&rt, "a line");
     let (sink, mut log) = open_log(&rt);
     let own = rt.clone().expect(&rt, "a handle");

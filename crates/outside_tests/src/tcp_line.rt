@@ -1,7 +1,7 @@
 //! The line over sockets. One thread is client and gateway, so the client speaks first.
 use crate::loopback::{begin, client, gets, hears, listen};
 use gate_base::{Line, NoCount};
-use sockets::TcpLine;
+use sockets::{Bounds, TcpLine};
 use std::io::Read;
 use std::net::Net;
 use std::process::Abort;
@@ -10,14 +10,15 @@ const ASKED: &[u8] = b"HEAD /photos HTTP/1.1\r\n\r\n";
 
 const REPLY: &[u8] = b"HTTP/1.1 200 OK\r\nContent-Length: 0\r\n\r\n";
 
-/// How many bytes are read ahead or kept to be sent.
-const AHEAD: usize = 1_048_576;
-
-/// The most bytes of a body that is read ahead.
-const LARGEST: usize = 16_777_216;
-
-/// A limit of time in seconds that the test doesn't come to.
-const LONG: u64 = 30;
+/// The test doesn't come to the limit of time.
+const BOUNDS: Bounds = Bounds {
+    limit: 30,
+    ahead: 1_048_576,
+    largest: 16_777_216,
+    floor: 0,
+    places: 900,
+    timeout: b"",
+};
 
 /// One request and its reply, and the ends.
 fn serve<L: Line<NoCount>, S: Read>(rt: &impl Abort, line: &mut L, client: &mut S) {
@@ -33,15 +34,7 @@ fn serve<L: Line<NoCount>, S: Read>(rt: &impl Abort, line: &mut L, client: &mut 
 fn a_client_is_served(rt: HostRuntime) {
     let (listener, place) = listen(&rt);
     let own = rt.clone().expect(&rt, "a handle");
-    let made = TcpLine::<HostRuntime>::new(
-        own,
-        rt.alloc(),
-        listener,
-        LONG,
-        Some(1),
-        AHEAD,
-        LARGEST,
-    );
+    let made = TcpLine::<HostRuntime>::new(own, rt.alloc(), listener, Some(1), BOUNDS);
     let mut line = made.expect(&rt, "a line");
     let mut client = client(&rt, place, ASKED);
     serve(&rt, &mut line, &mut client);

@@ -20,9 +20,9 @@ use crate::input::InputLine;
 use crate::probe::probe_store;
 use crate::said::{Limits, say_end, say_start};
 use environment::{
-    Clients, LONGEST, SetupFault, Why, ahead_limit, clients_at_variable_place,
-    clone_environment_runtime, error_log, idle_limit, number_in_variable, place_fault,
-    required_variable, variable, words,
+    Bounds, Clients, LONGEST, SetupFault, Why, ahead_limit, clients_at_variable_place,
+    clone_environment_runtime, error_log, floor_limit, idle_limit, number_in_variable, place_fault,
+    places, required_variable, variable, words,
 };
 use gate_base::{Bytes, Copying, Line, RandomDraws, StdLine, StdSink, SystemClock};
 use gateway_cli::{Command, USUAL_LARGEST_BODY, read_words};
@@ -51,14 +51,23 @@ const AHEAD: &str = "S3GATE_AHEAD";
 
 const IDLE: &str = "S3GATE_IDLE";
 
+const FLOOR: &str = "S3GATE_FLOOR";
+
 const LOG: &str = "S3GATE_LOG";
 
 const MEBIBYTE: u64 = 1_048_576;
 
+const KIBIBYTE: u64 = 1_024;
+
+/// The reply to a request that is given up in the middle of its body (Amazon S3 API Reference, "Error responses"). The line writes
+/// it, so it has no id.
+const TIMEOUT: &[u8] =
+    b"HTTP/1.1 400 Bad Request\r\nContent-Type: application/xml\r\nContent-Length: 130\r\nConnection: close\r\n\r\n<?xml version=\"1.0\" encoding=\"UTF-8\"?>\n<Error><Code>RequestTimeout</Code><Message>The body did not come in time.</Message></Error>";
+
 /// The exit status where the words or the key text are refused.
 const REFUSED: u8 = 2;
 
-/// How many seconds the store may be silent, where `S3GATE_STORE_TIMEOUT` doesn't say: longer than a Swift proxy waits for
+/// How many seconds a call of the store may take, where `S3GATE_STORE_TIMEOUT` doesn't say: longer than a Swift proxy waits for
 /// its own servers.
 const USUAL_SILENCE: u64 = 300;
 
@@ -181,6 +190,7 @@ fn limits(rt: &HostRuntime, store: u64) -> Result<Limits, SetupFault> {
     Ok(Limits {
         idle: idle_limit(rt, IDLE)?,
         ahead: ahead_limit(rt, AHEAD)? / MEBIBYTE,
+        floor: floor_limit(rt, FLOOR)? / KIBIBYTE,
         store,
     })
 }
@@ -316,10 +326,16 @@ fn read_key_file(rt: &HostRuntime, path: &str) -> Result<String, SetupFault> {
 
 /// The clients that come to the place which the environment names. How many of them are served is said by the words.
 fn clients(rt: &HostRuntime, largest: u64) -> Result<Clients, SetupFault> {
-    let limit = idle_limit(rt, IDLE)?;
-    let ahead = ahead_for(rt, largest)?;
+    let bounds = Bounds {
+        limit: idle_limit(rt, IDLE)?,
+        ahead: ahead_for(rt, largest)? as usize,
+        largest: largest as usize,
+        floor: floor_limit(rt, FLOOR)?,
+        places: places(rt) as usize,
+        timeout: TIMEOUT,
+    };
     let log = error_log(rt, LOG)?;
-    clients_at_variable_place(rt, LISTEN, log, limit, ahead as usize, largest as usize)
+    clients_at_variable_place(rt, LISTEN, log, bounds)
 }
 
 /// How many bytes are read ahead or kept to be sent, at most. Bodies of more bytes than the usual ones are read ahead whole, so that
@@ -332,7 +348,7 @@ fn ahead_for(rt: &HostRuntime, largest: u64) -> Result<u64, SetupFault> {
     Ok(bytes)
 }
 
-/// How many seconds the store may be silent.
+/// How many seconds a call of the store may take.
 fn store_limit(rt: &HostRuntime) -> Result<u64, SetupFault> {
     number_in_variable(rt, "S3GATE_STORE_TIMEOUT", USUAL_SILENCE, LONGEST)
 }

@@ -7,11 +7,13 @@ use gateway_cli::{Command, USUAL_LARGEST_BODY};
 use std::alloc::Global;
 use swift_requests::Place;
 
-/// The numbers of a run that variables say: seconds that a client and the store may be silent, and MiB that are held.
+/// The numbers of a run that variables say: seconds that a client may be silent and a call of the store may take, MiB that are held, and
+/// KiB that a client moves at least.
 #[derive(Clone, Copy)]
 pub struct Limits {
     pub idle: u64,
     pub ahead: u64,
+    pub floor: u64,
     pub store: u64,
 }
 
@@ -104,6 +106,7 @@ fn append_profile(
 fn append_limits(alloc: Global, line: &mut Bytes, limits: Limits) -> Result<(), Memory> {
     append_count(alloc, line, b", idle ", limits.idle, b" s")?;
     append_count(alloc, line, b", ahead ", limits.ahead, b" MiB")?;
+    append_count(alloc, line, b", floor ", limits.floor, b" KiB")?;
     append_count(alloc, line, b", store timeout ", limits.store, b" s")
 }
 

@@ -153,6 +153,11 @@ impl Came {
     /// Lets all go.
     pub(crate) fn clear(&mut self) {
         self.empty_front();
+        self.clear_pieces();
+    }
+
+    /// Lets all go that stands behind the bytes in which the head was sought.
+    pub(crate) fn clear_pieces(&mut self) {
         self.pieces.clear();
         self.taken = 0;
         self.behind = 0;

@@ -1,16 +1,18 @@
-//! One client that is connected: what came of it, and what it has not taken yet.
+//! One client that is connected: what came of it, what it has not taken yet, and how it stands among the others.
 ghost use Rattle.std.specs.Prelude.{◌≤◌, length, IfOk};
 
-use crate::came::Came;
-use crate::front::{Front, HEAD_LIMIT, begins_no_head, find_front};
-use std::alloc::{AllocError, Global};
+use crate::inbox::Inbox;
+use crate::outbox::{Outbox, send};
+use crate::pace::Stay;
+use crate::wire::Wire;
+use std::alloc::Global;
 use std::collections::VecDeque;
 use std::io;
-use std::io::{ErrorKind, Read, Write};
-use std::net::{OpenStream, Shutdown, SocketAddr};
+use std::io::{Read, Write};
+use std::net::{OpenStream, SocketAddr};
 use std::time::Duration;
 
-/// How many reads or writes are made on one client before others have their turn.
+/// How many reads are made on one client before others have their turn.
 const TURNS: usize = 32;
 
 /// How many bytes are dropped of a client whose connection ends.
@@ -21,9 +23,6 @@ const DROP_SILENCE: u64 = 200;
 
 /// What asks for a body.
 const ASKING: &[u8] = b"HTTP/1.1 100 Continue\r\n\r\n";
-
-/// How an interim reply begins. The reply itself is still to come.
-const INTERIM: &[u8] = b"HTTP/1.1 1";
 
 #[derive(Clone, Copy, PartialEq, Eq)]
 pub(crate) enum Phase {
@@ -61,119 +60,129 @@ pub(crate) enum Lack {
     Next(Duration),
 }
 
-#[derive(Drop)]
-pub(crate) struct Client<S> {
-    stream: S,
-    pub(crate) peer: SocketAddr,
-    /// The most bytes of a body that is read ahead.
-    largest: usize,
-    phase: Phase,
-    /// What came and was not given, and in how many bytes of its front no end of a head was found.
-    came: Came,
-    sought: usize,
-    /// How many bytes the request at the front has, 0 while it isn't known, and how many of them are to be given.
-    size: usize,
-    left: usize,
-    asks: bool,
-    /// Whether the line has asked for the body in the gateway's place.
-    offered: bool,
-    /// Whether its requests have ends that are known; and where they haven't, whether it is in the middle of one.
-    framed: bool,
-    busy: bool,
-    /// Whether a part of the reply was sent.
-    replying: bool,
-    /// Whether it can be given.
-    ready: bool,
-    /// What is kept to be sent, from `sent` on.
-    unsent: Vec<u8>,
-    sent: usize,
-    /// What the system reported, and no refusal took back.
-    readable: bool,
-    writable: bool,
-    /// Its end came, or it failed.
-    over: bool,
-    failed: bool,
-    shut: bool,
-    dropped: usize,
-    /// When it last sent anything, when it last took anything or began to be sent anything, and when its request began.
-    heard: Duration,
-    took: Duration,
-    began: Duration,
+/// How a client stands among the others.
+#[derive(Clone, Copy)]
+pub(crate) struct Standing {
     /// The number of its turn among those that are ready, 0 where it has none, and whether it stands in the queue of those to be attended.
     pub(crate) turn: u64,
     pub(crate) stirred: bool,
     /// How many of its bytes are counted as held.
     pub(crate) counted: usize,
+    /// Since when it has had more to send, for which there is no room.
+    pub(crate) stalled: Option<Duration>,
+    /// How it moves while another waits for the room that it has, and whether its request was given up since that was less than the
+    /// floor.
+    stay: Stay,
+    slow: bool,
+}
+
+impl Standing {
+    fn new(now: Duration) -> Standing {
+        Standing {
+            turn: 0,
+            stirred: false,
+            counted: 0,
+            stalled: None,
+            stay: Stay::new(now, 0),
+            slow: false,
+        }
+    }
+
+    fn stall(&mut self, now: Duration) {
+        if self.stalled.is_none() {
+            self.stalled = Some(now);
+        }
+    }
+}
+
+#[derive(Drop)]
+pub(crate) struct Client<S> {
+    wire: Wire<S>,
+    pub(crate) peer: SocketAddr,
+    phase: Phase,
+    inbox: Inbox,
+    outbox: Outbox,
+    pub(crate) standing: Standing,
+    /// Whether the writing side was ended, and how many bytes were dropped since.
+    shut: bool,
+    dropped: usize,
 }
 
 impl<S: Read + Write + OpenStream + Drop> Client<S> {
-    /// A client that has just come. `largest` is how many bytes a body has at most that is read ahead.
+    /// A client that has just come, and may have been there since `reported`. `largest` is how many bytes a body has at most that is
+    /// read ahead.
     pub(crate) fn new(
         alloc: Global,
         stream: S,
         peer: SocketAddr,
         largest: usize,
+        reported: Duration,
         now: Duration,
     ) -> Client<S> {
         Client {
-            stream,
+            wire: Wire::new(stream, reported, now),
             peer,
-            largest,
             phase: Phase::Waits,
-            came: Came::new(alloc),
-            sought: 0,
-            size: 0,
-            left: 0,
-            asks: false,
-            offered: false,
-            framed: true,
-            busy: false,
-            replying: false,
-            ready: false,
-            unsent: Vec::new(alloc),
-            sent: 0,
-            readable: true,
-            writable: true,
-            over: false,
-            failed: false,
+            inbox: Inbox::new(alloc, largest, now),
+            outbox: Outbox::new(alloc),
+            standing: Standing::new(now),
             shut: false,
             dropped: 0,
-            heard: now,
-            took: now,
-            began: now,
-            turn: 0,
-            stirred: false,
-            counted: 0,
         }
     }
 
     /// How many bytes it holds.
     pub(crate) fn held(&self) -> usize {
-        self.came.len().saturating_add(self.unsent.len())
+        self.inbox.len().saturating_add(self.outbox.len())
     }
 
     /// When it last sent or took anything.
     pub(crate) fn last(&self) -> Duration {
-        if self.heard < self.took {
-            self.took
-        } else {
-            self.heard
-        }
+        self.wire.last()
+    }
+
+    /// When its request began.
+    pub(crate) fn began(&self) -> Duration {
+        self.inbox.began()
+    }
+
+    /// When the head of its request was there.
+    pub(crate) fn headed(&self) -> Duration {
+        self.inbox.headed()
+    }
+
+    /// How many bytes it has sent and taken in all.
+    pub(crate) fn moved(&self) -> u64 {
+        self.wire.moved()
     }
 
     /// Since when it has been silent between two requests, if it is.
     pub(crate) fn idle_since(&self) -> Option<Duration> {
-        if self.phase == Phase::Waits && self.came.is_empty() && self.unsent.is_empty() {
+        if self.phase == Phase::Waits && self.inbox.is_empty() && self.outbox.is_empty() {
             Some(self.last())
         } else {
             None
         }
     }
 
+    /// Whether the request at its front is known, and a part of it is there.
+    pub(crate) fn is_part(&self) -> bool {
+        self.phase == Phase::Waits && self.inbox.is_part()
+    }
+
     /// Since when its request has come, if that is known and a part of it is there.
     pub(crate) fn part_since(&self) -> Option<Duration> {
-        if self.phase == Phase::Waits && self.size != 0 && !self.ready {
-            Some(self.began)
+        if self.is_part() {
+            Some(self.began())
+        } else {
+            None
+        }
+    }
+
+    /// Since when it has had more of its request to send, for which there is no room.
+    pub(crate) fn stalled_since(&self) -> Option<Duration> {
+        if self.is_part() {
+            self.standing.stalled
         } else {
             None
         }
@@ -181,32 +190,42 @@ impl<S: Read + Write + OpenStream + Drop> Client<S> {
 
     /// Whether it can be given now. While bytes are kept for it, it can't: its replies stay in order, and are not more than one.
     pub(crate) fn is_next(&self) -> bool {
-        self.phase == Phase::Waits && self.ready && self.unsent.is_empty()
+        self.phase == Phase::Waits && self.inbox.is_ready() && self.outbox.is_empty()
     }
 
-    /// Notes what the system reported of its stream.
-    pub(crate) fn mark(&mut self, readable: bool, writable: bool) {
-        self.readable = self.readable || readable;
-        self.writable = self.writable || writable;
+    /// How many bytes of its request are still to come.
+    pub(crate) fn need(&self) -> usize {
+        self.inbox.need()
+    }
+
+    /// Whether its request has more bytes than that.
+    pub(crate) fn is_larger(&self, most: usize) -> bool {
+        self.inbox.is_larger(most)
+    }
+
+    /// Notes what the system reported of its stream, which may have been so since `moment`.
+    pub(crate) fn mark(&mut self, readable: bool, writable: bool, moment: Duration) {
+        self.wire.mark(readable, writable, moment);
     }
 
     /// Puts it into the queue of those to be attended, by its place, where it doesn't stand there. False without memory for that.
     pub(crate) fn stir(&mut self, place: usize, queue: &mut VecDeque<usize>) -> bool {
-        if !self.stirred {
-            self.stirred = queue.push_back(place).is_ok();
+        if !self.standing.stirred {
+            self.standing.stirred = queue.push_back(place).is_ok();
         }
-        self.stirred
+        self.standing.stirred
     }
 
     /// Sends what is kept, and reads ahead or drops what comes. `full` says that there is no room to read ahead.
     pub(crate) fn attend(&mut self, now: Duration, limit: Duration, full: bool) -> After {
-        self.try_again(now, limit);
-        self.flush(now);
+        self.wire.try_again(now, limit);
+        self.outbox.flush(&mut self.wire, now);
         let gone = match self.phase {
             Phase::Waits => {
                 if full && self.holds_part() {
                     return self.stall(now, limit);
                 }
+                self.standing.stalled = None;
                 self.read_ahead(now, full)
             }
             Phase::Served => false,
@@ -221,12 +240,16 @@ impl<S: Read + Write + OpenStream + Drop> Client<S> {
 
     /// Whether it has bytes of a request, and more of them are to be read.
     fn holds_part(&self) -> bool {
-        !self.came.is_empty() && !self.ready && !self.over && self.readable
+        !self.inbox.is_empty()
+            && !self.inbox.is_ready()
+            && !self.wire.is_over()
+            && self.wire.is_readable()
     }
 
     /// It waits for room. Only a head has a limit meanwhile.
-    fn stall(&self, now: Duration, limit: Duration) -> After {
-        if self.size == 0 && self.began.saturating_add(limit) <= now {
+    fn stall(&mut self, now: Duration, limit: Duration) -> After {
+        self.standing.stall(now);
+        if self.inbox.is_half_head() && self.began().saturating_add(limit) <= now {
             After::Gone
         } else {
             After::Full
@@ -237,16 +260,20 @@ impl<S: Read + Write + OpenStream + Drop> Client<S> {
     /// come of it.
     fn read_ahead(&mut self, now: Duration, full: bool) -> bool {
         let turns = if full { 1 } else { TURNS };
-        if self.hear(turns, now).is_err() {
+        if self.inbox.hear(&mut self.wire, turns, now).is_err() {
             self.fail();
         }
         self.ask_for_body(now);
-        self.over && (self.failed || !self.ready && self.unsent.is_empty())
+        self.wire.is_over()
+            && (self.wire.has_failed() || !self.inbox.is_ready() && self.outbox.is_empty())
     }
 
-    fn rest(&self, now: Duration, limit: Duration) -> After {
+    /// What becomes of it by the time. One that is silent in the middle of a body gets an answer in its turn.
+    fn rest(&mut self, now: Duration, limit: Duration) -> After {
         let end = self.deadline(limit);
-        if end <= now {
+        if end <= now && self.lapses() {
+            After::Rests(Duration::MAX)
+        } else if end <= now {
             After::Gone
         } else if self.goes_on() {
             After::GoesOn
@@ -255,95 +282,32 @@ impl<S: Read + Write + OpenStream + Drop> Client<S> {
         }
     }
 
-    /// Reads what comes, until the request at the front is there.
-    fn hear(&mut self, turns: usize, now: Duration) -> Result<(), AllocError> {
-        for _turn in 0..turns {
-            if self.ready || self.over || !self.readable {
-                return Ok(());
-            }
-            if self.came.is_empty() {
-                self.began = now;
-            }
-            self.hear_piece(now)?;
-            self.judge();
+    /// Gives its request up, where a part of the body is still to come and it can be answered. False where it can't.
+    fn lapses(&mut self) -> bool {
+        let can = self.is_part()
+            && self.outbox.is_empty()
+            && !self.wire.is_over()
+            && !self.wire.has_failed();
+        if can {
+            self.inbox.lapse();
         }
-        Ok(())
-    }
-
-    fn hear_piece(&mut self, now: Duration) -> Result<(), AllocError> {
-        let got = self.came.hear(&mut self.stream, self.size)?;
-        let _ = self.note(got, now);
-        Ok(())
-    }
-
-    /// How many bytes came, with what that says of the stream.
-    fn note(&mut self, got: io::Result<usize>, now: Duration) -> usize {
-        match got {
-            Ok(0) => {
-                self.over = true;
-                0
-            }
-            Ok(count) => {
-                self.heard = now;
-                count
-            }
-            Err(error) => {
-                match error.kind() {
-                    ErrorKind::WouldBlock => self.readable = false,
-                    ErrorKind::Interrupted => {}
-                    _ => {
-                        self.over = true;
-                        self.failed = true;
-                    }
-                }
-                0
-            }
-        }
-    }
-
-    /// What stands at the front, by all that came. A body that its client ended is given, for that gets an answer; half a head isn't.
-    fn judge(&mut self) {
-        if self.came.is_empty() {
-            return;
-        }
-        if self.size == 0 && (self.has_line() || begins_no_head(self.came.front())) {
-            self.find();
-        }
-        if self.size != 0 && (self.over || self.came.len() >= self.size) {
-            self.ready = true;
-        }
-    }
-
-    /// Whether more was read that may end a head: a line end, or as much as no head may have.
-    fn has_line(&self) -> bool {
-        let front = self.came.front();
-        front.len() >= HEAD_LIMIT || front[self.sought.min(front.len())..].contains(&b'\n')
-    }
-
-    fn find(&mut self) {
-        self.sought = self.came.front().len();
-        match find_front(self.came.front(), self.largest) {
-            Front::Part => {}
-            Front::Request { size, asks } => {
-                self.size = size;
-                self.asks = asks;
-            }
-            Front::Open => {
-                self.framed = false;
-                self.ready = true;
-            }
-        }
+        can
     }
 
     /// Asks for the body of a request whose client waits to be asked, as the gateway would: once, and behind what is kept to be sent.
     fn ask_for_body(&mut self, now: Duration) {
-        if !self.asks || self.offered || self.ready || self.over || !self.unsent.is_empty() {
+        if !self.inbox.is_to_be_asked() || self.wire.is_over() || !self.outbox.is_empty() {
             return;
         }
-        self.took = now;
-        if let Ok(count) = self.send(ASKING, now) {
-            self.offered = true;
-            if self.keep(&ASKING[count.min(ASKING.len())..]).is_err() {
+        self.wire.begin_taking(now);
+        let count = send(&mut self.wire, ASKING, now);
+        if !self.wire.has_failed() {
+            self.inbox.note_asked();
+            if self
+                .outbox
+                .keep(&ASKING[count.min(ASKING.len())..])
+                .is_err()
+            {
                 self.fail();
             }
         }
@@ -351,85 +315,39 @@ impl<S: Read + Write + OpenStream + Drop> Client<S> {
 
     /// Whether these bytes were sent already. Those of a reply never were, whatever they spell.
     fn is_offered(&self, bytes: &[u8]) -> bool {
-        self.offered && !self.replying && bytes == ASKING
+        self.inbox.was_asked() && !self.outbox.is_replying() && bytes == ASKING
     }
 
     /// It is given.
     pub(crate) fn begin(&mut self) {
         self.phase = Phase::Served;
-        self.busy = true;
-        self.replying = false;
-        self.ready = false;
-        self.turn = 0;
-        if self.size == 0 {
-            self.framed = false;
-        }
-        self.left = self.size;
+        self.outbox.begin();
+        self.inbox.begin();
+        self.standing.turn = 0;
+        self.standing.stalled = None;
     }
 
     /// Bytes of the request that is given: of those that came, and else from the stream. 0 where there is none now.
     pub(crate) fn give(&mut self, buf: &mut [u8], now: Duration) -> usize
         ensures { result ≤ length buf.old }
     {
-        let most = self.most(buf.len());
-        let given = self.came.give(&mut buf[..most]);
-        if given > 0 {
-            self.left = self.left.saturating_sub(given);
-            self.busy = true;
-            return given;
-        }
-        if self.over || !self.readable || most == 0 {
-            return 0;
-        }
-        let got = self.stream.read(&mut buf[..most]);
-        let count = self.note(got, now).min(most);
-        self.left = self.left.saturating_sub(count);
-        self.busy = self.busy || count > 0;
-        count
-    }
-
-    /// How many bytes may be given into so much room.
-    fn most(&self, room: usize) -> usize
-        ensures { result ≤ room }
-    {
-        if self.phase != Phase::Served {
-            0
-        } else if self.framed {
-            room.min(self.left)
+        if self.phase == Phase::Served {
+            self.inbox.give(&mut self.wire, buf, now)
         } else {
-            room
+            0
         }
     }
 
     /// Whether a part of its reply was sent, behind which more may come.
     pub(crate) fn is_replying(&self) -> bool {
-        self.replying
+        self.outbox.is_replying()
     }
 
     /// Its reply is whole. What stands behind the request is its next.
     pub(crate) fn replied(&mut self, now: Duration) {
-        self.busy = false;
-        self.end_reply();
-        if !self.framed || self.left != 0 {
-            return;
-        }
-        self.came.advance();
-        self.sought = 0;
-        self.size = 0;
-        self.asks = false;
-        self.offered = false;
-        self.phase = Phase::Waits;
-        self.ready = false;
-        self.began = now;
-        self.judge();
-    }
-
-    /// Whether nothing more of its request is to come.
-    fn is_given(&self) -> bool {
-        if self.framed {
-            self.left == 0
-        } else {
-            !self.busy
+        self.outbox.end_reply();
+        if self.inbox.advance(self.wire.is_over(), now) {
+            self.phase = Phase::Waits;
         }
     }
 
@@ -440,23 +358,25 @@ impl<S: Read + Write + OpenStream + Drop> Client<S> {
 
     /// Whether it takes nothing of what is kept for it until its end. Then its next request isn't given either.
     fn is_stuck(&self, end: Duration, now: Duration) -> bool {
-        !self.unsent.is_empty() && end <= now
+        !self.outbox.is_empty() && end <= now
     }
 
     /// Why it gives nothing now. It may be silent for the limit.
     pub(crate) fn lack(&self, now: Duration, limit: Duration) -> Lack {
-        let given = self.is_given();
+        let given = self.inbox.is_given();
         let end = self.silent_end(limit);
-        if given && self.is_stuck(end, now) {
+        if self.inbox.is_lapsed() {
+            Lack::Fault
+        } else if given && self.is_stuck(end, now) {
             Lack::End
-        } else if self.ready || !self.over && now < end {
+        } else if self.inbox.is_ready() || !self.wire.is_over() && now < end {
             let wait = end.saturating_sub(now);
             if given {
                 Lack::Next(wait)
             } else {
                 Lack::Rest(wait)
             }
-        } else if given || self.over && !self.failed {
+        } else if given || self.wire.is_over() && !self.wire.has_failed() {
             Lack::End
         } else {
             Lack::Fault
@@ -472,26 +392,19 @@ impl<S: Read + Write + OpenStream + Drop> Client<S> {
         }
     }
 
-    /// These bytes are to be sent: from now on it may take nothing for the limit of time. They are of its reply, unless it has
-    /// none yet and they are an interim one.
+    /// These bytes are to be sent: from now on it may take nothing for the limit of time.
     pub(crate) fn begin_sending(&mut self, bytes: &[u8], now: Duration) {
-        self.replying = self.replying || !bytes.starts_with(INTERIM);
-        if self.unsent.is_empty() {
-            self.took = now;
-        }
+        self.outbox.begin_sending(&mut self.wire, bytes, now);
     }
 
     /// When it has taken nothing for the limit of time.
     pub(crate) fn last_taking(&self, limit: Duration) -> Duration {
-        self.took.saturating_add(limit)
+        self.wire.last_taking(limit)
     }
 
-    /// Where it seems to have taken nothing for the limit of time it is tried once more. The system reports room only once there is
-    /// much of it, and a client that takes slowly takes less than that.
-    fn try_again(&mut self, now: Duration, limit: Duration) {
-        if !self.failed && self.last_taking(limit) <= now {
-            self.writable = true;
-        }
+    /// It is tried whether it takes anything.
+    pub(crate) fn try_now(&mut self) {
+        self.wire.try_now();
     }
 
     /// How many bytes it takes at once, or are kept for it, where they are at most so many.
@@ -505,138 +418,100 @@ impl<S: Read + Write + OpenStream + Drop> Client<S> {
         if self.is_offered(bytes) {
             return Ok(bytes.len());
         }
-        self.try_again(now, limit);
-        let count = self.take(bytes, now)?;
-        let rest = &bytes[count.min(bytes.len())..];
-        if rest.len() <= room && self.keep(rest).is_ok() {
-            Ok(bytes.len())
+        self.wire.try_again(now, limit);
+        self.outbox.put(&mut self.wire, bytes, room, now)
+    }
+
+    /// It may have room that another waits for. Where it is slow it fails.
+    pub(crate) fn judge_stay(&mut self, now: Duration, floor: u64) {
+        if !self.stays() {
+            return self.begin_stay(now);
+        }
+        if self.standing.stay.is_over(now) {
+            self.wire.try_now();
+            self.outbox.flush(&mut self.wire, now);
+            if self.standing.stay.is_slow(self.moved(), floor) && !self.has_more() {
+                self.give_up_waiting();
+            }
+            self.begin_stay(now);
+        }
+    }
+
+    /// What it holds is let go, because it is slow. Where it can be answered that is done in its turn.
+    fn give_up_waiting(&mut self) {
+        if self.lapses() {
+            self.standing.slow = true;
         } else {
-            Ok(count)
+            self.fail();
         }
     }
 
-    /// How many bytes it takes at once. None while others are kept for it.
-    fn take(&mut self, bytes: &[u8], now: Duration) -> io::Result<usize> {
-        self.flush(now);
-        if self.failed {
-            return Err(io::Error::from(ErrorKind::BrokenPipe));
+    /// Whether its request was given up because it was slow, while it waited for its turn.
+    pub(crate) fn was_slow(&self) -> bool {
+        self.standing.slow
+    }
+
+    /// Answers the request that is given, of whose body a part didn't come. False where that can't be answered any more.
+    pub(crate) fn refuse(&mut self, reply: &[u8], now: Duration) -> bool {
+        let can = !reply.is_empty()
+            && self.inbox.is_cut_short()
+            && !self.outbox.is_replying()
+            && self.outbox.is_empty();
+        if !can {
+            return false;
         }
-        if self.unsent.is_empty() {
-            self.send(bytes, now)
+        self.wire.begin_taking(now);
+        self.outbox
+            .put(&mut self.wire, reply, reply.len(), now)
+            .is_ok()
+    }
+
+    /// Whether it waits for room itself, with more than a little at hand.
+    fn has_more(&self) -> bool {
+        self.standing.stalled.is_some() && self.wire.has_bytes(self.inbox.need())
+    }
+
+    /// From now on it is asked how it moves.
+    pub(crate) fn begin_stay(&mut self, now: Duration) {
+        self.standing.stay = Stay::new(now, self.moved());
+    }
+
+    /// Whether what it has is waited for: the rest of a request that is read, or that it takes what is kept for it.
+    fn stays(&self) -> bool {
+        if self.phase == Phase::Served {
+            false
+        } else if !self.outbox.is_empty() {
+            true
         } else {
-            Ok(0)
+            !self.inbox.is_empty() && !self.inbox.is_ready()
         }
     }
 
-    fn send(&mut self, bytes: &[u8], now: Duration) -> io::Result<usize> {
-        let mut count = 0usize;
-        for _turn in 0..TURNS {
-            if !self.writable || count >= bytes.len() {
-                break;
-            }
-            let put = self.stream.write(&bytes[count..]);
-            count = count.saturating_add(self.note_put(put, now));
-        }
-        if self.failed {
-            return Err(io::Error::from(ErrorKind::BrokenPipe));
-        }
-        Ok(count.min(bytes.len()))
-    }
-
-    /// How many bytes it took, with what that says of the stream.
-    fn note_put(&mut self, put: io::Result<usize>, now: Duration) -> usize {
-        match put {
-            Ok(0) => {
-                self.fail();
-                0
-            }
-            Ok(count) => {
-                self.took = now;
-                count
-            }
-            Err(error) => {
-                match error.kind() {
-                    ErrorKind::WouldBlock => self.writable = false,
-                    ErrorKind::Interrupted => {}
-                    _ => self.fail(),
-                }
-                0
-            }
-        }
-    }
-
-    /// Sends of what is kept what it takes at once.
-    fn flush(&mut self, now: Duration) {
-        for _turn in 0..TURNS {
-            if !self.writable || self.sent >= self.unsent.len() {
-                break;
-            }
-            let put = self.stream.write(&self.unsent[self.sent..]);
-            let count = self.note_put(put, now);
-            self.sent = self.sent.saturating_add(count);
-        }
-        if self.failed || self.sent >= self.unsent.len() {
-            self.forget_unsent();
-        }
-    }
-
-    /// All that was kept is sent. Its room stays for the next piece of the same reply.
-    fn forget_unsent(&mut self) {
-        if !self.unsent.is_empty() {
-            self.sent = 0;
-            self.unsent.truncate(0);
-            if !self.replying {
-                self.give_room_back();
-            }
-        }
-    }
-
-    /// Its reply is whole: where nothing of it is kept any more, no room is.
-    fn end_reply(&mut self) {
-        self.replying = false;
-        if self.unsent.is_empty() {
-            self.give_room_back();
-        }
-    }
-
-    fn give_room_back(&mut self) {
-        let alloc = *self.unsent.allocator();
-        self.unsent = Vec::new(alloc);
-    }
-
-    fn fail(&mut self) {
-        self.over = true;
-        self.failed = true;
-        self.writable = false;
-    }
-
-    /// Keeps bytes to be sent later.
-    fn keep(&mut self, bytes: &[u8]) -> Result<(), AllocError> {
-        self.unsent.extend_from_slice(bytes)
+    /// Nothing more comes of it, and nothing more is sent to it.
+    pub(crate) fn fail(&mut self) {
+        self.wire.fail();
     }
 
     /// It gets nothing more than what is kept for it.
     pub(crate) fn close(&mut self, now: Duration) {
         self.phase = Phase::Closing;
-        self.end_reply();
-        self.ready = false;
-        self.heard = now;
-        self.size = 0;
-        self.came.clear();
+        self.outbox.end_reply();
+        self.wire.begin_hearing(now);
+        self.inbox.close();
     }
 
     /// Ends it from this side once all is sent, and drops what it still sends. True once there is no more to wait for.
     fn leave(&mut self, now: Duration) -> bool {
-        if self.failed {
+        if self.wire.has_failed() {
             return true;
         }
-        if !self.unsent.is_empty() {
+        if !self.outbox.is_empty() {
             return false;
         }
         if !self.shut {
             self.shut = true;
-            self.heard = now;
-            if self.stream.shutdown(Shutdown::Write).is_err() {
+            self.wire.begin_hearing(now);
+            if !self.wire.shut() {
                 return true;
             }
         }
@@ -646,30 +521,31 @@ impl<S: Read + Write + OpenStream + Drop> Client<S> {
     fn drop_rest(&mut self, now: Duration) -> bool {
         let mut buf = [0; 4096];
         for _turn in 0..TURNS {
-            if self.over || self.dropped > DROPS {
+            if self.wire.is_over() || self.dropped > DROPS {
                 return true;
             }
-            if !self.readable {
+            if !self.wire.is_readable() {
                 return false;
             }
-            let got = self.stream.read(&mut buf);
-            let count = self.note(got, now);
+            let got = self.wire.stream.read(&mut buf);
+            let count = self.wire.note_read(got, now);
             self.dropped = self.dropped.saturating_add(count);
         }
-        self.over
+        self.wire.is_over()
     }
 
     /// When it is given up, if nothing comes or goes before. Who is served, or waits for a turn, isn't: those are not the silent ones.
     fn deadline(&self, limit: Duration) -> Duration {
         if self.phase == Phase::Closing && self.shut {
-            self.heard
+            self.wire
+                .heard()
                 .saturating_add(Duration::from_millis(DROP_SILENCE))
-        } else if !self.unsent.is_empty() {
+        } else if !self.outbox.is_empty() {
             self.last_taking(limit)
-        } else if self.ready || self.phase == Phase::Served {
+        } else if self.inbox.is_ready() || self.phase == Phase::Served {
             Duration::MAX
-        } else if self.size == 0 && !self.came.is_empty() {
-            self.began.saturating_add(limit)
+        } else if self.inbox.is_half_head() {
+            self.began().saturating_add(limit)
         } else {
             self.last().saturating_add(limit)
         }
@@ -678,10 +554,11 @@ impl<S: Read + Write + OpenStream + Drop> Client<S> {
     /// Whether more of it is to be done at once.
     fn goes_on(&self) -> bool {
         let hears = match self.phase {
-            Phase::Waits => !self.ready,
+            Phase::Waits => !self.inbox.is_ready(),
             Phase::Served => false,
             Phase::Closing => self.shut,
         };
-        hears && self.readable && !self.over || self.writable && !self.unsent.is_empty()
+        hears && self.wire.is_readable() && !self.wire.is_over()
+            || self.wire.is_writable() && !self.outbox.is_empty()
     }
 }

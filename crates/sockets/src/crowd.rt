@@ -1,8 +1,13 @@
 //! The clients of a listener, side by side: which of them has a request, and what waits to be sent.
 ghost use Rattle.std.specs.Prelude.{◌≤◌, length, IfOk};
 
+use crate::bounds::Bounds;
 use crate::client::{After, Client, Lack};
+use crate::front::HEAD_LIMIT;
+use crate::pace::Pace;
 use crate::places::Places;
+use crate::room::Room;
+use crate::turns::{Turn, Turns};
 use crate::watch::{LISTENER, Watch};
 use mio::event::Event;
 use std::alloc::Global;
@@ -25,18 +30,10 @@ const REST: u64 = 100;
 /// How many times in a row the listener may fail while nobody is connected.
 const LOSSES: u32 = 100;
 
-/// The turn of the client at that place, by its number from 1.
-#[derive(Clone, Copy)]
-struct Turn {
-    place: usize,
-    number: u64,
-}
-
 /// One thread reads ahead of all clients and sends what is kept for them, while one of them is served.
 ///
-/// Work goes by two queues: who is to be attended, and who has a whole request. An entry may be outdated, for a client that
-/// was served or ended meanwhile; then it is passed over. So that it never becomes another turn of the same place, each turn has
-/// a number. Only every `REST` are all clients looked at, for their times.
+/// Work goes by two queues: who is to be attended, and who has a whole request. An outdated entry is passed over. Only every `REST` are all
+/// clients looked at, for their times.
 #[derive(Drop)]
 pub(crate) struct Crowd<R: Net> {
     rt: R,
@@ -44,10 +41,8 @@ pub(crate) struct Crowd<R: Net> {
     listener: R::Listener,
     watch: Watch,
     places: Places<R::Stream>,
-    ready: VecDeque<Turn>,
+    turns: Turns,
     stirred: VecDeque<usize>,
-    /// How many turns were given.
-    turns: u64,
     /// The place of the client that is served.
     open: Option<usize>,
     /// Whether the listener may have clients, and whether they are still taken.
@@ -57,10 +52,17 @@ pub(crate) struct Crowd<R: Net> {
     limit: Duration,
     /// The most bytes of a body that is read ahead.
     largest: usize,
-    /// How many bytes are read ahead or wait to be sent, at most, and how many do. `full` says that a client waits for room.
-    most: usize,
-    held: usize,
-    full: bool,
+    room: Room,
+    pace: Pace,
+    /// The reply to a request that is given up in the middle of its body.
+    timeout: &'static [u8],
+    /// Whether the client that is served was given up because it was slow, and whether it was sent that reply.
+    slow: bool,
+    refused: bool,
+    /// How long its request has waited for its turn.
+    waited: Duration,
+    /// Whether its request was given before it was there whole.
+    early: bool,
     now: Duration,
     /// When all clients are looked at next, though nothing comes.
     due: Duration,
@@ -71,31 +73,32 @@ impl<R: Net + Clock + Drop> Crowd<R> {
         rt: R,
         alloc: Global,
         listener: R::Listener,
-        limit: Duration,
-        most: usize,
-        largest: usize,
+        bounds: Bounds,
     ) -> io::Result<Crowd<R>> {
         listener.set_nonblocking(true)?;
         let now = rt.monotonic()?;
-        let watch = Watch::new(&rt, alloc, listener.as_raw_fd())?;
+        let watch = Watch::new(&rt, alloc, listener.as_raw_fd(), now)?;
         Ok(Crowd {
             rt,
             alloc,
             listener,
             watch,
-            places: Places::new(alloc),
-            ready: VecDeque::new(alloc),
+            places: Places::new(alloc, bounds.places),
+            turns: Turns::new(alloc),
             stirred: VecDeque::new(alloc),
-            turns: 0,
             open: None,
             waiting: true,
             ending: false,
             losses: 0,
-            limit,
-            largest,
-            most,
-            held: 0,
-            full: false,
+            limit: Duration::from_secs(bounds.limit),
+            largest: bounds.largest,
+            room: Room::new(bounds.ahead.saturating_add(HEAD_LIMIT)),
+            pace: Pace::new(bounds.floor),
+            timeout: bounds.timeout,
+            slow: false,
+            refused: false,
+            waited: Duration::ZERO,
+            early: false,
             now,
             due: now,
         })
@@ -120,27 +123,47 @@ impl<R: Net + Clock + Drop> Crowd<R> {
         Err(io::Error::from(ErrorKind::Other))
     }
 
-    /// The place of the client that has had a request for the longest time. Where others wait for room it is the one whose request
-    /// began first, so that it makes room.
+    /// The place of the client that has had a request for the longest time. One that has waited for room too long goes before.
     fn choose(&mut self) -> Option<usize> {
-        if self.full && self.held >= self.most {
-            if let Some(place) = self.places.oldest_part(self.now) {
-                return Some(place);
-            }
+        match self.overdue() {
+            Some(place) => Some(place),
+            None => self.first_ready(),
         }
-        self.first_ready()
+    }
+
+    /// The place of the client that has waited for room the longest, where that is too long. Who never finds room for the whole doesn't
+    /// wait for it.
+    fn overdue(&mut self) -> Option<usize> {
+        if !self.room.is_awaited() {
+            return None;
+        }
+        let (place, since) = self.places.longest_stalled(self.now)?;
+        if self.is_too_large(place) {
+            return Some(place);
+        }
+        let due = self.room.end_of_patience(since)?;
+        if due <= self.now {
+            Some(place)
+        } else {
+            self.due = self.due.min(due);
+            None
+        }
+    }
+
+    fn is_too_large(&self, place: usize) -> bool {
+        match self.places.get(place) {
+            Some(client) => client.is_larger(self.room.most()),
+            None => false,
+        }
     }
 
     fn first_ready(&mut self) -> Option<usize> {
-        for _entry in 0..self.ready.len() {
-            let turn = match self.ready.front() {
-                Some(turn) => *turn,
-                None => return None,
-            };
+        for _entry in 0..self.turns.len() {
+            let turn = self.turns.first()?;
             if self.is_due(turn) {
                 return Some(turn.place);
             }
-            let _ = self.ready.pop_front();
+            self.turns.pass();
         }
         None
     }
@@ -148,7 +171,7 @@ impl<R: Net + Clock + Drop> Crowd<R> {
     /// Whether that turn is still to come.
     fn is_due(&self, turn: Turn) -> bool {
         match self.places.get(turn.place) {
-            Some(client) => client.turn == turn.number && client.is_next(),
+            Some(client) => client.standing.turn == turn.number && client.is_next(),
             None => false,
         }
     }
@@ -177,9 +200,94 @@ impl<R: Net + Clock + Drop> Crowd<R> {
 
     fn begin(&mut self, place: usize) {
         self.open = Some(place);
+        self.slow = false;
+        self.refused = false;
+        self.early = !self.is_next(place);
+        self.pace.begin(self.now);
         if let Some(client) = self.places.get_mut(place) {
+            self.waited = self.now.saturating_sub(client.headed());
             client.begin();
         }
+    }
+
+    /// How long the request that was given last has waited for its turn, once its head was there.
+    pub(crate) fn waited(&self) -> Duration {
+        self.waited
+    }
+
+    /// How many bytes the client there has sent and taken in all.
+    fn moved_at(&self, place: usize) -> u64 {
+        match self.places.get(place) {
+            Some(client) => client.moved(),
+            None => 0,
+        }
+    }
+
+    /// Whether the client that was served last was given up because it was slow.
+    pub(crate) fn was_slow(&self) -> bool {
+        self.slow
+    }
+
+    /// Waits for the client that is served, at most so long. Where others wait too that is measured, and one that is slow fails.
+    fn wait_for(&mut self, place: usize, wait: Duration) -> io::Result<()> {
+        let moved = self.moved_at(place);
+        if !self.is_contested() {
+            self.pace.rest(moved);
+            return self.look(wait);
+        }
+        let left = self.pace.left(moved);
+        if left.is_zero() {
+            return self.give_up(place);
+        }
+        let begun = self.rt.monotonic()?;
+        self.look(wait.min(left))?;
+        self.pace.wait(self.now.saturating_sub(begun));
+        if self.early {
+            self.room.note_yielding(self.now);
+        }
+        Ok(())
+    }
+
+    /// Whether another client has a whole request, or waits for room.
+    fn is_contested(&mut self) -> bool {
+        self.room.is_awaited() || self.first_ready().is_some()
+    }
+
+    /// What the line has answered by itself to the client that was served last.
+    pub(crate) fn refusal(&self) -> &'static [u8] {
+        if self.refused { self.timeout } else { b"" }
+    }
+
+    /// The client that is served is slow. Where its request can't be answered any more, nothing is sent to it, and what is kept for it is
+    /// let go.
+    fn give_up(&mut self, place: usize) -> io::Result<()> {
+        self.slow = true;
+        if self.early {
+            self.room.note_early(true);
+        }
+        self.pace.give_up(self.now);
+        self.refuse(place);
+        if !self.refused {
+            if let Some(client) = self.places.get_mut(place) {
+                client.fail();
+            }
+        }
+        Err(io::Error::from(ErrorKind::TimedOut))
+    }
+
+    /// Answers the request that is given, of whose body a part didn't come, where that can still be done.
+    fn refuse(&mut self, place: usize) {
+        if let Some(client) = self.places.get_mut(place) {
+            self.slow = self.slow || client.was_slow();
+            self.refused = client.refuse(self.timeout, self.now);
+        }
+        self.count(place);
+    }
+
+    /// The request that is given doesn't come to its end.
+    fn break_off(&mut self, place: usize) -> io::Result<bool> {
+        self.refuse(place);
+        Err(io::Error::from(ErrorKind::TimedOut))
     }
 
     /// Bytes of the client that is served, or none: it came to its end, or gives way to another client that has a request,
@@ -222,9 +330,9 @@ impl<R: Net + Clock + Drop> Crowd<R> {
         };
         match lack {
             Lack::End => Ok(true),
-            Lack::Fault => Err(io::Error::from(ErrorKind::TimedOut)),
+            Lack::Fault => self.break_off(place),
             Lack::Rest(wait) => {
-                self.look(wait)?;
+                self.wait_for(place, wait)?;
                 Ok(false)
             }
             Lack::Next(wait) => self.gives_way(place, wait),
@@ -305,9 +413,15 @@ impl<R: Net + Clock + Drop> Crowd<R> {
 
     /// How many bytes a client takes at once, or are kept for it.
     fn put(&mut self, place: usize, bytes: &[u8]) -> io::Result<usize> {
-        let room = self.most.saturating_sub(self.held);
+        let room = self.room.left();
+        let last = self.pace.is_over();
         let count = match self.places.get_mut(place) {
-            Some(client) => client.put(bytes, room, self.now, self.limit)?,
+            Some(client) => {
+                if last {
+                    client.try_now();
+                }
+                client.put(bytes, room, self.now, self.limit)?
+            }
             None => bytes.len(),
         };
         self.count(place);
@@ -323,7 +437,7 @@ impl<R: Net + Clock + Drop> Crowd<R> {
         if left.is_zero() {
             return Err(io::Error::from(ErrorKind::TimedOut));
         }
-        self.look(left)
+        self.wait_for(place, left)
     }
 
     /// The reply of the client that is served, if it was sent any, is whole.
@@ -337,6 +451,10 @@ impl<R: Net + Clock + Drop> Crowd<R> {
 
     /// The report of its next request, or of its end, may have come already: so it is attended at once.
     fn replied(&mut self, place: usize) {
+        if self.early {
+            self.early = false;
+            self.room.note_early(false);
+        }
         if let Some(client) = self.places.get_mut(place) {
             client.replied(self.now);
         }
@@ -378,8 +496,7 @@ impl<R: Net + Clock + Drop> Crowd<R> {
     /// Only then are others accepted: a place is taken of one that is idle, and what it has just sent must be known by then.
     fn look(&mut self, wait: Duration) -> io::Result<()> {
         let wait = self.wait_within(wait);
-        self.watch.wait(wait)?;
-        self.now = self.rt.monotonic()?;
+        self.now = self.watch.wait(&self.rt, wait)?;
         self.mark();
         self.attend_stirred();
         if self.waiting && !self.ending {
@@ -407,7 +524,7 @@ impl<R: Net + Clock + Drop> Crowd<R> {
             if place == LISTENER {
                 self.waiting = true;
             } else if let Some(client) = self.places.get_mut(place) {
-                mark_client(client, event);
+                mark_client(client, event, self.watch.since);
                 let _ = client.stir(place, &mut self.stirred);
             }
         }
@@ -418,7 +535,7 @@ impl<R: Net + Clock + Drop> Crowd<R> {
         for _entry in 0..self.stirred.len() {
             if let Some(place) = self.stirred.pop_front() {
                 if let Some(client) = self.places.get_mut(place) {
-                    client.stirred = false;
+                    client.standing.stirred = false;
                 }
                 self.attend(place);
             }
@@ -427,14 +544,55 @@ impl<R: Net + Clock + Drop> Crowd<R> {
 
     /// Attends all clients, which ends those whose time is over, and goes on with those that waited for room.
     fn attend_all(&mut self) {
-        self.full = false;
+        let judges = self.room.begin_look(self.now);
+        self.find_first();
         self.due = self.now.saturating_add(self.limit);
         for place in 0..self.places.len() {
+            self.judge_stay(place, judges);
             self.attend(place);
         }
         self.due = self.due.max(self.rested());
-        if self.waiting || self.full {
+        if self.waiting || self.room.is_awaited() {
             self.due = self.rested();
+        }
+    }
+
+    /// Where another waits for room, a client that has some and is slow fails.
+    fn judge_stay(&mut self, place: usize, judges: bool) {
+        let floor = self.pace.floor();
+        if let Some(client) = self.places.get_mut(place) {
+            if judges {
+                client.judge_stay(self.now, floor);
+            } else {
+                client.begin_stay(self.now);
+            }
+        }
+    }
+
+    /// Which client began first of those whose request is coming.
+    fn find_first(&mut self) {
+        self.room.first = self.places.oldest_part(self.now);
+    }
+
+    fn is_part(&self, place: usize) -> bool {
+        match self.places.get(place) {
+            Some(client) => client.is_part(),
+            None => false,
+        }
+    }
+
+    /// How many bytes of its request the first of those whose request is coming still needs.
+    fn need_of_first(&self) -> usize {
+        match self.room.first {
+            Some(first) => self.need_at(first),
+            None => 0,
+        }
+    }
+
+    fn need_at(&self, place: usize) -> usize {
+        match self.places.get(place) {
+            Some(client) if client.is_part() => client.need(),
+            _ => 0,
         }
     }
 
@@ -445,15 +603,25 @@ impl<R: Net + Clock + Drop> Crowd<R> {
 
     /// Does what is due with one client.
     fn attend(&mut self, place: usize) {
-        let full = self.held >= self.most;
-        let after = match self.places.get_mut(place) {
-            Some(client) => client.attend(self.now, self.limit, full),
+        let need = self.need_of_first();
+        let full = self.room.is_full_for(place, need);
+        let (stalled, after) = match self.places.get_mut(place) {
+            Some(client) => {
+                let stalled = client.standing.stalled.is_some();
+                (stalled, client.attend(self.now, self.limit, full))
+            }
             None => return,
         };
         self.count(place);
+        if stalled && !matches!(after, After::Full | After::Gone) {
+            self.room.note_yielding(self.now);
+        }
         match after {
             After::GoesOn => self.stir(place),
-            After::Full => self.full = true,
+            After::Full => {
+                self.room.note_waiting();
+                self.rest();
+            }
             After::Rests(end) => self.due = self.due.min(end),
             After::Gone => {
                 if self.open != Some(place) {
@@ -461,6 +629,7 @@ impl<R: Net + Clock + Drop> Crowd<R> {
                 }
             }
         }
+        self.note_part(place);
         self.line_up(place);
     }
 
@@ -468,18 +637,21 @@ impl<R: Net + Clock + Drop> Crowd<R> {
     fn count(&mut self, place: usize) {
         if let Some(client) = self.places.get_mut(place) {
             let held = client.held();
-            self.held = self
-                .held
-                .saturating_sub(client.counted)
-                .saturating_add(held);
-            client.counted = held;
+            if self.room.count(client.standing.counted, held) {
+                self.due = self.now;
+            }
+            client.standing.counted = held;
         }
-        self.make_room();
     }
 
-    fn make_room(&mut self) {
-        if self.full && self.held < self.most {
-            self.due = self.now;
+    /// The first of those whose request is coming is another one once its own is there.
+    fn note_part(&mut self, place: usize) {
+        let part = self.is_part(place);
+        if self.room.first == Some(place) && !part {
+            self.room.first = None;
+        }
+        if self.room.first.is_none() && part {
+            self.find_first();
         }
     }
 
@@ -495,13 +667,10 @@ impl<R: Net + Clock + Drop> Crowd<R> {
     /// A client that can be given has a turn, behind those that others have.
     fn line_up(&mut self, place: usize) {
         if let Some(client) = self.places.get_mut(place) {
-            if client.is_next() && client.turn == 0 {
-                let number = self.turns.saturating_add(1);
-                if self.ready.push_back(Turn { place, number }).is_ok() {
-                    self.turns = number;
-                    client.turn = number;
-                } else {
-                    self.due = self.now;
+            if client.is_next() && client.standing.turn == 0 {
+                match self.turns.give(place) {
+                    Some(number) => client.standing.turn = number,
+                    None => self.due = self.now,
                 }
             }
         }
@@ -509,10 +678,14 @@ impl<R: Net + Clock + Drop> Crowd<R> {
 
     fn forget(&mut self, place: usize) {
         if let Some(client) = self.places.get(place) {
-            self.held = self.held.saturating_sub(client.counted);
+            if self.room.count(client.standing.counted, 0) {
+                self.due = self.now;
+            }
             self.places.empty(place);
         }
-        self.make_room();
+        if self.room.first == Some(place) {
+            self.room.first = None;
+        }
     }
 
     /// Accepts the clients that wait, as far as there are places.
@@ -596,7 +769,14 @@ impl<R: Net + Clock + Drop> Crowd<R> {
         let source = stream.as_raw_fd();
         self.places.fill(
             place,
-            Client::new(self.alloc, stream, peer, self.largest, self.now),
+            Client::new(
+                self.alloc,
+                stream,
+                peer,
+                self.largest,
+                self.watch.since,
+                self.now,
+            ),
         );
         if self.watch.add_stream(source, place).is_ok() {
             self.stir(place);
@@ -607,7 +787,12 @@ impl<R: Net + Clock + Drop> Crowd<R> {
 }
 
 /// Notes what the system reported of a client's stream. One that failed, or was closed, is tried both ways.
-fn mark_client<S: Read + Write + OpenStream + Drop>(client: &mut Client<S>, event: &Event) {
+fn mark_client<S: Read + Write + OpenStream + Drop>(
+    client: &mut Client<S>,
+    event: &Event,
+    since: Duration,
+) {
     let failed = event.is_error() || event.is_read_closed();
-    client.mark(event.is_readable() || failed, event.is_writable() || failed);
+    let readable = event.is_readable() || failed;
+    client.mark(readable, event.is_writable() || failed, since);
 }

@@ -5,9 +5,9 @@ use std::io::{Read, Write};
 use std::net::OpenStream;
 use std::time::Duration;
 
-/// How many clients are connected at once, at most. The others wait in the listener's queue. With the connection to the store and
-/// what the program holds itself, that is below the 1024 descriptors that a process usually has.
-pub(crate) const PLACES: usize = 900;
+/// How many clients are connected at once, at most; fewer where the line is made so. The others wait in the listener's queue. With the
+/// connections to the store and what the program holds itself, that is below the 1024 descriptors that a process usually has.
+const PLACES: usize = 900;
 
 /// Which clients are sought.
 #[derive(Clone, Copy)]
@@ -16,6 +16,8 @@ enum Sought {
     Idle { served: Option<usize> },
     /// Those of whose request a part came.
     Part,
+    /// Those of them that have more to send, for which there is no room.
+    Stalled,
 }
 
 #[derive(Drop)]
@@ -23,11 +25,14 @@ pub(crate) struct Places<S> {
     slots: Vec<Option<Client<S>>>,
     /// The empty places among them.
     free: Vec<usize>,
+    /// How many places there are, at most.
+    most: usize,
 }
 
 impl<S: Read + Write + OpenStream + Drop> Places<S> {
-    pub(crate) fn new(alloc: Global) -> Places<S> {
+    pub(crate) fn new(alloc: Global, most: usize) -> Places<S> {
         Places {
+            most: most.min(PLACES).max(1),
             slots: Vec::new(alloc),
             free: Vec::new(alloc),
         }
@@ -53,7 +58,7 @@ impl<S: Read + Write + OpenStream + Drop> Places<S> {
     }
 
     pub(crate) fn has_room(&self) -> bool {
-        !self.free.is_empty() || self.slots.len() < PLACES
+        !self.free.is_empty() || self.slots.len() < self.most
     }
 
     /// Takes an empty place. It is filled by `fill`, or given back by `empty`.
@@ -90,6 +95,13 @@ impl<S: Read + Write + OpenStream + Drop> Places<S> {
         self.longest(Sought::Idle { served }, moment)
     }
 
+    /// The place of the client that has had more of its request to send for the longest time, for which there is no room, and since when.
+    pub(crate) fn longest_stalled(&self, now: Duration) -> Option<(usize, Duration)> {
+        let place = self.longest(Sought::Stalled, now)?;
+        let since = self.get(place)?.stalled_since()?;
+        Some((place, since))
+    }
+
     /// The place of the client that has been sending the same request for the longest time.
     pub(crate) fn oldest_part(&self, now: Duration) -> Option<usize> {
         self.longest(Sought::Part, now)
@@ -114,6 +126,7 @@ impl<S: Read + Write + OpenStream + Drop> Places<S> {
     fn sought_since(&self, sought: Sought, place: usize) -> Option<Duration> {
         match (self.get(place), sought) {
             (Some(client), Sought::Part) => client.part_since(),
+            (Some(client), Sought::Stalled) => client.stalled_since(),
             (Some(client), Sought::Idle { served }) if served != Some(place) => client.idle_since(),
             _ => None,
         }

@@ -6,13 +6,15 @@ ghost use Rattle.std.proofs.Math.Nat.{le-add_left};
 ghost use Rattle.gate_base.specs.Causes.{Rose};
 ghost use Rattle.gate_base.specs.Line.{silent_line};
 
+use crate::bounds::Bounds;
 use crate::crowd::Crowd;
+use crate::pace::milliseconds;
 use gate_base::{CALL_LIMIT, Counted, Failed, Line, NoCount};
 use std::alloc::Global;
 use std::io;
 use std::io::ErrorKind;
 use std::net::{Net, SocketAddr};
-use std::time::{Clock, Duration};
+use std::time::Clock;
 
 /// Connections that a listener accepts, side by side in one thread. All who wait are accepted, up to 900; the others stay in the
 /// listener's queue until one of those leaves, or has been idle for a second and gives its place away.
@@ -22,19 +24,27 @@ use std::time::{Clock, Duration};
 /// stays connected. When its turn has come, `next` gives it again, as one more connection.
 ///
 /// Requests are read ahead, head and body, and of a reply what a client doesn't take at once is kept and sent while others are
-/// served. All that together has a bound. Past it the request that began first is given before it is there whole, and a write
-/// waits until its client has taken it. A request whose end the line doesn't know is given at once too, and then its connection
-/// doesn't give way but ends: one with a transfer coding, a head over 16,384 bytes, or a body over the largest that is read ahead, and
-/// what can't become a request by its first byte or its first line.
+/// served. All that together has a bound, of which a quarter is for the request that began first of those that are coming. Past the
+/// bound a write waits until its client has taken it, and a request that found no room for a second (11 where the last such one was
+/// slow) is given before it is there whole; one larger than the bound isn't let wait. A request whose end the line doesn't know is given
+/// at once too, and then its connection doesn't give way but ends: one with a transfer coding, a head over 16,384 bytes or of more than
+/// 100 headers, or a body over the largest that is read ahead, and what can't become a request, where its first 4,096 bytes show that.
 ///
 /// A client that expects `100 Continue` is sent that by the line, once its head is there and its body isn't. The same bytes, written
 /// before the reply, are then passed over.
+///
+/// While another client has a whole request, or waits for room, the line waits for the one that is served only as long as it gives or
+/// takes the floor in each 5 seconds of such waiting. While a client waits for room, one that has some of it and moves less than that is
+/// given up.
+///
+/// Who is given up, or is silent for the limit of time, in the middle of its body is sent the reply `timeout` of the bounds by the line,
+/// where no byte of a reply was sent, and its `read` is Failed. One that waited for its turn is given as far as its head first.
 ///
 /// A reply is all that is written until more is read, `next` is asked for, or the connection is closed; an interim reply before it
 /// isn't of it. Nothing that stands behind its request is looked at before that, and between its pieces the other clients are.
 ///
 /// A connection on which nothing moves for the limit of time ends, and so does one whose head takes longer in all. That is a fault
-/// where a part of its request was given, or a write waits for it; between two requests, and while one is read ahead or a reply
+/// where a part of its request was given, or a write waits for it; between two requests, and while a head is read ahead or a reply
 /// that was kept is sent, it is none. A write that succeeds has its bytes sent or kept.
 ///
 /// When a connection is closed, its writing side ends once what is kept for it is sent. What it still sends is dropped meanwhile, while
@@ -55,12 +65,10 @@ pub struct TcpLine<R: Net> {
 }
 
 impl<R: Net + Clock + Drop> TcpLine<R> {
-    /// A line of the clients of a listener, with no connection open yet. `limit` is the limit of time, in seconds. At
-    /// most so many `connections` begin, and without that number as many as clients ask for; one that gave way and comes again is
-    /// one more. `ahead` is how many bytes are read ahead or kept to be sent in all. One client's may go 2 MiB past it, and the
-    /// buffers that hold them may be twice as large; behind the first MiB of a request each 2 MiB stand in room of 32 MiB, of which what
-    /// no byte came to is no memory. `largest` is how many bytes a body has at most that is read ahead; the length of
-    /// such a one has at most 10 digits.
+    /// A line of the clients of a listener, with no connection open yet. At most so many `connections` begin, and without that
+    /// number as many as clients ask for; one that gave way and comes again is one more. Two clients' bytes may go 2 MiB past what
+    /// `bounds` lets be held, and the buffers that hold them may be twice as large; behind the first MiB of a request each 2 MiB stand in
+    /// room of 32 MiB, of which what no byte came to is no memory. The length of a body that is read ahead has at most 10 digits.
     ///
     /// A limit of 0 is `ErrorKind::InvalidInput`, and want of memory `ErrorKind::OutOfMemory`. Any other error is the
     /// system's, which can't wait for the listener.
@@ -68,30 +76,21 @@ impl<R: Net + Clock + Drop> TcpLine<R> {
         rt: R,
         alloc: Global,
         listener: R::Listener,
-        limit: u64,
         connections: Option<u64>,
-        ahead: usize,
-        largest: usize,
+        bounds: Bounds,
     ) -> io::Result<TcpLine<R>>
         ensures line { IfOk result (λ line.
             ⟦<TcpLine<R> as Line<NoCount>>⟧.model line ≡ silent_line false 0 0) }
-        ensures limit { IfOk result (λ line. (line.limit ≡ limit) × (0 < limit)) }
+        ensures limit { IfOk result (λ line. (line.limit ≡ bounds.limit) × (0 < bounds.limit)) }
         ensures connections { IfOk result (λ line. line.left ≡ unwrap_or connections (2 ^ 64 - 1)) }
     {
-        if limit == 0 {
+        if bounds.limit == 0 {
             return Err(io::Error::from(ErrorKind::InvalidInput));
         }
         Ok(TcpLine {
-            crowd: Crowd::new(
-                rt,
-                alloc,
-                listener,
-                Duration::from_secs(limit),
-                ahead,
-                largest,
-            )?,
+            crowd: Crowd::new(rt, alloc, listener, bounds)?,
             connected: false,
-            limit,
+            limit: bounds.limit,
             left: connections.unwrap_or(u64::MAX),
             spent: 0,
             next_faults: 0,
@@ -105,6 +104,23 @@ impl<R: Net + Clock + Drop> TcpLine<R> {
     /// The error is the system's, which can't wait for the clients. What was kept is lost then.
     pub fn finish(&mut self) -> io::Result<()> {
         self.crowd.finish()
+    }
+
+    /// Whether the client that was served last was given up because others waited and it moved less than the floor.
+    pub fn was_slow(&self) -> bool {
+        self.crowd.was_slow()
+    }
+
+    /// What the line has written by itself to the client that was served last: the reply of [`Bounds`](crate::Bounds) to a request that is
+    /// given up in the middle of its body, or nothing.
+    pub fn refusal(&self) -> &'static [u8] {
+        self.crowd.refusal()
+    }
+
+    /// How many milliseconds the request that was given last has waited for its turn, once its head was there. It may be less by as much as
+    /// the line didn't look before.
+    pub fn waited(&self) -> u64 {
+        milliseconds(self.crowd.waited())
     }
 
     /// The address of the client whose connection is open.

@@ -6,6 +6,7 @@ mod client;
 mod made;
 mod receive;
 mod tcp_link;
+mod timed;
 
 pub use client::SwiftClient;
 pub use made::over_tcp;

@@ -7,12 +7,13 @@ use crate::{SwiftClient, TcpLink};
 use gate_base::{Copying, Memory};
 use std::alloc::Global;
 use std::net::Net;
+use std::time::Clock;
 use swift_calls::Swift;
 use swift_requests::Place;
 
 /// The store at the address that the host of `place` gives, with the account and the token of `place`. The first call
 /// makes the connection. `limit` is the limit of time of the link, in seconds.
-pub fn over_tcp<R: Net + Drop>(
+pub fn over_tcp<R: Net + Clock + Drop>(
     rt: R,
     alloc: Global,
     place: Place,

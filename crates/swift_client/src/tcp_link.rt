@@ -5,12 +5,13 @@ ghost use Rattle.gate_base.specs.Causes.{Rose};
 ghost use Rattle.swift_client.specs.Silent.{nowhere, silent_history};
 
 use crate::receive::receive;
+use crate::timed::Timed;
 use gate_base::{Bytes, Counted};
 use std::alloc::Global;
 use std::io;
 use std::io::{ErrorKind, Read, Write};
 use std::net::{HostAddrs, Net, OpenStream, ToSocketAddrs};
-use std::time::Duration;
+use std::time::{Clock, Duration};
 use swift_requests::{Link, LinkFault};
 use wire_log::{Cause, Explains};
 
@@ -24,10 +25,10 @@ const JOINED: usize = 16_384;
 ///
 /// An exchange fails where the store can't be reached, where it ends the connection before its answer is whole, where the
 /// answer has a Transfer-Encoding, no length, or a head of more than 65,536 bytes, where bytes come behind the answer, and
-/// where the store lets the limit of time pass: while a connection is made, before it takes more of the request, or
-/// before it sends more of the answer. A wait that a signal interrupts is none of these: it begins again, and with it the
-/// limit. Where an exchange fails the connection is dropped. It is dropped too after an answer whose
-/// `Connection` says anything but `keep-alive`, or whose version is HTTP/1.0.
+/// where the store lets the limit of time pass: while a connection is made, or from then on until it has taken the request and sent the
+/// whole answer, with a second more for each MiB of both. A wait that a signal interrupts begins again. Where an exchange fails the
+/// connection is dropped. It is dropped too after an answer whose `Connection` says anything but `keep-alive`, or whose version is
+/// HTTP/1.0.
 #[derive(Drop)]
 pub struct TcpLink<R: Net> {
     rt: R,
@@ -44,7 +45,7 @@ pub struct TcpLink<R: Net> {
     failing: Option<Cause>,
 }
 
-impl<R: Net + Drop> TcpLink<R> {
+impl<R: Net + Clock + Drop> TcpLink<R> {
     /// A link to the store at an address: a host's name or number, a colon and a port. The first exchange makes the
     /// connection. `limit` is the limit of time, in seconds; with a limit of 0 each exchange fails.
     pub fn new(rt: R, alloc: Global, address: Bytes, limit: u64) -> TcpLink<R>
@@ -141,9 +142,10 @@ impl<R: Net + Drop> TcpLink<R> {
     ) -> io::Result<()>
         ensures { self.new ≡ record self.old { stream = self.new.stream; fresh = self.new.fresh } }
     {
-        let mut stream = self.take_ready_stream()?;
-        if send_and_receive(self.alloc, &mut stream, head, body, front, rest)? {
-            self.stream = Some(stream);
+        let stream = self.take_ready_stream()?;
+        let mut timed = Timed::new(&self.rt, stream, Duration::from_secs(self.limit))?;
+        if send_and_receive(self.alloc, &mut timed, head, body, front, rest)? {
+            self.stream = Some(timed.stream);
         }
         Ok(())
     }
@@ -157,7 +159,7 @@ impl<R: Net> Counted for TcpLink<R> {
     }
 }
 
-impl<R: Net + Drop> Link for TcpLink<R> {
+impl<R: Net + Clock + Drop> Link for TcpLink<R> {
     ghost history = { λ l. silent_history l.calls l.faults };
 
     ghost place = { λ l. nowhere };
@@ -238,8 +240,8 @@ fn append_pieces(request: &mut Vec<u8>, head: &[u8], body: &[u8]) -> io::Result<
     Ok(())
 }
 
-/// Why an exchange failed with that error, under a limit of time of so many seconds. A read or a write past it is `WouldBlock`, and
-/// connecting is a `TimedOut` that isn't the system's own.
+/// Why an exchange failed with that error, under a limit of time of so many seconds. A read or a write past it is `WouldBlock` or, as
+/// connecting, a `TimedOut` that isn't the system's own.
 fn cause_of_failed_exchange(error: &io::Error, limit: u64) -> Cause {
     match error.kind() {
         ErrorKind::NotFound => Cause::NotFound,

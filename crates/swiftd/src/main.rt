@@ -3,8 +3,9 @@
 #![tactic(auto)]
 
 use environment::{
-    Clients, SetupFault, Why, ahead_limit, clients_at_variable_place, clone_environment_runtime,
-    error_log, idle_limit, machine_memory, report_variable_fault, words,
+    Bounds, Clients, SetupFault, Why, ahead_limit, clients_at_variable_place,
+    clone_environment_runtime, error_log, idle_limit, machine_memory, places,
+    report_variable_fault, words,
 };
 use gate_base::{Line, List, MemLine, NoCount, StdSink};
 use kept_store::{
@@ -25,6 +26,10 @@ const SETUP: u8 = 9;
 
 /// The most bytes of a body that is read ahead: the most that a store takes.
 const LARGEST_BODY: usize = 1_073_741_824;
+
+/// The reply to a request that is given up in the middle of its body, as Swift has it.
+const TIMEOUT: &[u8] =
+    b"HTTP/1.1 408 Request Timeout\r\nContent-Length: 0\r\nConnection: close\r\n\r\n";
 
 const LISTEN: &str = "SWIFTD_LISTEN";
 
@@ -170,8 +175,14 @@ fn file_setup_fault(fault: FileFault) -> SetupFault {
 
 /// The clients that come to the place which the environment names. How many of them are served is said by the words.
 fn clients(rt: &HostRuntime) -> Result<Clients, SetupFault> {
-    let limit = idle_limit(rt, "SWIFTD_IDLE")?;
-    let ahead = ahead_limit(rt, "SWIFTD_AHEAD")?;
+    let bounds = Bounds {
+        limit: idle_limit(rt, "SWIFTD_IDLE")?,
+        ahead: ahead_limit(rt, "SWIFTD_AHEAD")? as usize,
+        largest: LARGEST_BODY,
+        floor: 0,
+        places: places(rt) as usize,
+        timeout: TIMEOUT,
+    };
     let log = error_log(rt, "SWIFTD_LOG")?;
-    clients_at_variable_place(rt, LISTEN, log, limit, ahead as usize, LARGEST_BODY)
+    clients_at_variable_place(rt, LISTEN, log, bounds)
 }

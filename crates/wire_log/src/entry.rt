@@ -23,6 +23,8 @@ pub struct Entry<'a> {
     pub id: &'a [u8],
     /// The bytes of the reply, head and body; none where it couldn't be sent.
     pub bytes: Option<u64>,
+    /// Whether the line gave its client up because it was slow.
+    pub slow: bool,
     /// How many calls of the store were made for it.
     pub calls: u64,
     /// The milliseconds from the first byte of the request that was read.
@@ -30,13 +32,16 @@ pub struct Entry<'a> {
     /// The client's address, and the id of the key that the request names; none where it isn't known, or names none.
     pub peer: Option<SocketAddr>,
     pub key: Option<&'a [u8]>,
+    /// The milliseconds that the request waited for its turn.
+    pub waited: u64,
 }
 
 /// Room for most lines.
 const ROOM: usize = 256;
 
-/// The line, with its end: time, connection, method and target, status, id, bytes, calls, milliseconds, the client's address and the
-/// key's id, with a space between each two. `-` stands for what isn't known, twice where neither method nor target is.
+/// The line, with its end: time, connection, method and target, status, id, bytes, calls, milliseconds, the client's address, the
+/// key's id and the milliseconds that it waited, with a space between each two. `-` stands for what isn't known, twice where neither method
+/// nor target is. In place of the bytes `slow` says that the client was given up.
 pub fn log_entry_line(alloc: Global, entry: &Entry) -> Result<Bytes, Memory> {
     let mut line = Bytes::with_room(alloc, ROOM)?;
     append_log_entry(alloc, &mut line, entry)?;
@@ -61,14 +66,15 @@ fn append_log_front(line: &mut Bytes, entry: &Entry) -> Result<(), Memory> {
 }
 
 fn append_log_costs(line: &mut Bytes, entry: &Entry) -> Result<(), Memory> {
-    append_log_size(line, entry.bytes)?;
+    append_log_size(line, entry)?;
     append_log_number(line, entry.calls)?;
     append_log_number(line, entry.took)
 }
 
-fn append_log_size(line: &mut Bytes, bytes: Option<u64>) -> Result<(), Memory> {
-    match bytes {
+fn append_log_size(line: &mut Bytes, entry: &Entry) -> Result<(), Memory> {
+    match entry.bytes {
         Some(bytes) => append_log_number(line, bytes),
+        None if entry.slow => line.append(b" slow"),
         None => line.append(b" -"),
     }
 }
@@ -76,7 +82,9 @@ fn append_log_size(line: &mut Bytes, bytes: Option<u64>) -> Result<(), Memory> {
 fn append_log_client(alloc: Global, line: &mut Bytes, entry: &Entry) -> Result<(), Memory> {
     line.append(b" ")?;
     append_log_peer(alloc, line, entry.peer)?;
-    append_log_pieces(line, &[b" ", entry.key.unwrap_or(b"-"), b"\n"])
+    append_log_pieces(line, &[b" ", entry.key.unwrap_or(b"-")])?;
+    append_log_number(line, entry.waited)?;
+    line.append(b"\n")
 }
 
 fn append_log_peer(

@@ -33,6 +33,10 @@ pub struct LoggedLine<N, K, R, P> {
     last: Bytes,
     /// The client of the connection at hand.
     peer: Option<SocketAddr>,
+    /// Whether the line gave it up because it was slow.
+    slow: bool,
+    /// How many milliseconds the request at hand waited.
+    waited: u64,
 }
 
 impl<N, K: Sink, R: Clock, P> LoggedLine<N, K, R, P> {
@@ -53,6 +57,8 @@ impl<N, K: Sink, R: Clock, P> LoggedLine<N, K, R, P> {
             reply: None,
             last,
             peer: None,
+            slow: false,
+            waited: 0,
         }
     }
 
@@ -62,14 +68,15 @@ impl<N, K: Sink, R: Clock, P> LoggedLine<N, K, R, P> {
     {
         self.connection = self.connection.saturating_add(1);
         self.peer = peer;
+        self.slow = false;
         if self.log.is_on() {
             self.asked.begin();
             self.begun = self.log.ticks();
         }
     }
 
-    /// These bytes were read.
-    fn note_read(&mut self, bytes: &[u8])
+    /// These bytes were read, of a request that had waited for so long.
+    fn note_read(&mut self, bytes: &[u8], waited: u64)
         ensures { self.new.line ≡ self.old.line }
     {
         if !self.log.is_on() || bytes.is_empty() {
@@ -77,8 +84,19 @@ impl<N, K: Sink, R: Clock, P> LoggedLine<N, K, R, P> {
         }
         if self.asked.is_before() {
             self.begun = self.log.ticks();
+            self.waited = waited;
         }
         self.asked.read(bytes);
+    }
+
+    /// The read failed. Where the line gave the client up, what it wrote by itself is the reply.
+    fn note_failed_read(&mut self, refusal: &[u8], slow: bool)
+        ensures { self.new.line ≡ self.old.line }
+    {
+        self.slow = slow;
+        if slow || !refusal.is_empty() {
+            self.note_write(refusal, self.calls, !slow);
+        }
     }
 
     /// This was written, when there had been so many calls.
@@ -155,10 +173,12 @@ impl<N, K: Sink, R: Clock, P> LoggedLine<N, K, R, P> {
             status: reply.status(),
             id: reply.id(),
             bytes: reply.bytes,
+            slow: self.slow,
             calls: reply.calls.saturating_sub(self.calls),
             took: reply.ticks.saturating_sub(self.begun),
             peer: self.peer,
             key: self.asked.key(),
+            waited: self.waited,
         };
         log_entry_line(self.log.alloc(), &entry)
     }
@@ -195,15 +215,22 @@ impl<C: Counted + LastCall, N: Line<C>, K: Sink, R: Clock, P: Peers<N>> Line<C>
         self.end_reply();
         match self.line.read(buf) {
             Ok(count) => {
-                self.note_read(&buf[..count]);
+                let waited = self.peers.waited(&self.line);
+                self.note_read(&buf[..count], waited);
                 Ok(count)
             }
-            Err(fault) => Err(fault),
+            Err(fault) => {
+                let refusal = self.peers.refusal(&self.line);
+                let slow = self.peers.was_slow(&self.line);
+                self.note_failed_read(refusal, slow);
+                Err(fault)
+            }
         }
     }
 
     fn write(&mut self, store: &C, bytes: &[u8]) -> Result<(), Failed> {
         let result = self.line.write(store, bytes);
+        self.slow = result.is_err() && self.peers.was_slow(&self.line);
         self.note_write(bytes, store.calls(), result.is_ok());
         self.note_last_call(store.last_call());
         result
