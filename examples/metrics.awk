@@ -10,7 +10,7 @@
 # that its signature held.
 BEGIN {
     # The fields of a reply's line, as docs/OPERATING.md has them.
-    fields = split("time,connection,method,target,status,request id,bytes,calls,milliseconds,client,key", name, ",")
+    fields = split("time,connection,method,target,status,request id,bytes,calls,milliseconds,client,key,waited", name, ",")
     for (i = 1; i <= fields; i++) at[name[i]] = i
     METHOD = at["method"]; TARGET = at["target"]; STATUS = at["status"]; BYTES = at["bytes"]
     CALLS = at["calls"]; BUSY = at["milliseconds"]; KEY = at["key"]
