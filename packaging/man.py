@@ -1,12 +1,12 @@
 #!/usr/bin/env python3
-"""The pages of the manual, made from docs/OPERATING.md and the words of the programs: writes packaging/s3gate/s3gate.1 and
-packaging/swiftd/swiftd.1.
+"""The pages of the manual, made from docs/OPERATING.md, crates/swiftd/README.md and the words of the programs: writes
+packaging/s3gate/s3gate.1 and packaging/swiftd/swiftd.1.
 
   packaging/man.py            writes the pages
   packaging/man.py --check    says whether they are what it would write, and whether CHANGES.md begins with the version
                               that crates/s3gate/src/version.rt has
 
-A table is found by the row of its names, and a paragraph by its first words, so OPERATING may be ordered as its readers want. Where
+A table is found by the row of its names, and a paragraph by its first words, so these may be ordered as their readers want. Where
 one isn't there any more, or a page lacks a variable that its program reads, nothing is written.
 """
 import os
@@ -64,9 +64,9 @@ def items(rows):
     return [line for word, text in rows for line in (".TP", roff(word), roff(text))]
 
 
-def page(name, about, version, day, sections):
+def page(name, about, source, version, day, sections):
     """A whole page."""
-    lines = [r'.\" Made by packaging/man.py from docs/OPERATING.md: change that.', f'.TH {name.upper()} 1 {day} "s3gate {version}" "User Commands"']
+    lines = [rf'.\" Made by packaging/man.py from {source}: change that.', f'.TH {name.upper()} 1 {day} "s3gate {version}" "User Commands"']
     lines += [".SH NAME", f"{name} \\- {about}"]
     for title, text in sections:
         lines += [f".SH {title}", *(text[1:] if text[0] == ".PP" else text)]
@@ -88,12 +88,13 @@ def s3gate(version, day):
     words = [row[0].strip("`") for row in table("crates/gateway_cli/README.md", ["words", "command"])]
     given = table(operating, ["what", "meaning"])
     statuses = table(operating, ["status", "what is reported", "meaning"])
-    return page("s3gate", "S3 gateway to OpenStack Swift", version, day, [
+    return page("s3gate", "S3 gateway to OpenStack Swift", operating, version, day, [
         ("SYNOPSIS", synopsis([f"s3gate {form}" for form in words])),
         ("DESCRIPTION", text_of(read(operating).split("\n\n")[1:2])),
         ("OPTIONS", items(row for row in given if row[0].startswith("`--"))),
         ("ENVIRONMENT", items(row for row in given if not row[0].startswith("`--"))),
         ("THE KEY FILE", text_of([paragraph(operating, "The key file has a line")])),
+        ("A SWEEP", text_of([paragraph(operating, "**Stop `serve` before a sweep")])),
         ("THE LOG", [
             *text_of([paragraph(operating, "`serve` writes a line")]), *items(table(operating, ["field", "meaning"])),
             *text_of([paragraph(operating, "The store has lines")]), *items(table(operating, ["cause", "meaning"]))]),
@@ -103,14 +104,14 @@ def s3gate(version, day):
 
 
 def swiftd(version, day):
-    operating = "docs/OPERATING.md"
-    about = paragraph(operating, "`swiftd --token")
+    operating, own = "docs/OPERATING.md", "crates/swiftd/README.md"
+    about = paragraph(own, "`swiftd --token")
     same = {row[0].strip("`"): row[1] for row in table(operating, ["what", "meaning"])}
     rows = [(f"`SWIFTD_{word}`", re.sub(r"^(`\w+`(, )?)+: ", "", same[f"S3GATE_{word}"]).replace("`serve`", "`swiftd`"))
             for word in ("LISTEN", "IDLE", "AHEAD", "LOG")]
-    files = [paragraph(operating, it) for it in ("**What is on the disk.**", "**For what size.**", "**Backup.**", "**Nothing but swiftd may write")]
-    causes = [(cause, f"{meaning}.") for cause, meaning in table(operating, ["cause", "what it means"])]
-    return page("swiftd", "small Swift store in memory or in a file, for s3gate", version, day, [
+    files = [paragraph(own, it) for it in ("**What is on the disk.**", "**For what size.**", "**Backup.**", "**Nothing but swiftd may write")]
+    causes = [(cause, f"{meaning}.") for cause, meaning in table(own, ["cause", "what it means"])]
+    return page("swiftd", "small Swift store in memory or in a file, for s3gate", own, version, day, [
         ("SYNOPSIS", synopsis([about.split("`")[1]])),
         ("DESCRIPTION", text_of([about])),
         ("ENVIRONMENT", items(rows)),
@@ -140,7 +141,7 @@ def main():
             with open(os.path.join(ROOT, path), "w", encoding="utf-8") as file:
                 file.write(text)
         elif not os.path.exists(os.path.join(ROOT, path)) or read(path) != text:
-            fail(f"{path} isn't true of docs/OPERATING.md: run packaging/man.py")
+            fail(f"{path} isn't true of what it is made from: run packaging/man.py")
 
 
 if __name__ == "__main__":
