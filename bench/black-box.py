@@ -728,8 +728,8 @@ def who_does_not_move_holds_nobody(check):
     else waits."""
     put = request("PUT", "/photos/k", body=bytes(6 * MEBIBYTE))
     ask = request(*GET, owner=False, close=True)
-    with Store(account=account()) as store, Gate(store.text, S3GATE_AHEAD="1", S3GATE_LOG="on") as gate:
-        for title, sent, more in (("stops", put[:-9], b""), ("drips", put[: 11 * MEBIBYTE // 2], b"z")):
+    for title, sent, more in (("stops", put[:-9], b""), ("drips", put[: 11 * MEBIBYTE // 2], b"z")):
+        with Store(account=account()) as store, Gate(store.text, S3GATE_AHEAD="1", S3GATE_LOG="on") as gate:
             with gate.client(sent) as client:
                 time.sleep(0.5)
                 with gate.client(ask) as other:
@@ -739,9 +739,9 @@ def who_does_not_move_holds_nobody(check):
                     check(f"beside one that {title} another is served", ["abc", None], other.replies(2))
                     check("within some five seconds", True, other.took() < SOON)
                 check("and that one is told so", [(400, "RequestTimeout"), None], client.replies(2))
-        gate.signal(signal.SIGTERM)
-        told = log_of(gate.ended()[1])
-        check("which the log says", ["PUT /photos/k 400 - slow 0"] * 2, [it.split(" ", 1)[1] for it in told if "PUT" in it])
+            gate.signal(signal.SIGTERM)
+            told = log_of(gate.ended()[1])
+            check("which the log says", ["PUT /photos/k 400 - slow 0"], [it.split(" ", 1)[1] for it in told if "PUT" in it])
     with Store(account=account()) as store, Gate(store.text, S3GATE_AHEAD="1", S3GATE_FLOOR="0") as gate, gate.client(put[:-9]) as client:
         time.sleep(0.5)
         with gate.client(ask) as other:
