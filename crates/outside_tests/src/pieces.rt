@@ -110,10 +110,10 @@ pub(crate) fn comes<S: Read>(rt: &impl Abort, stream: &mut S, bytes: &[u8]) {
     assert!(rt; &*buf == bytes);
 }
 
-/// How a line goes on behind its milliseconds, up to the port of its client; and its end, since no key is named.
+/// How a line goes on behind its milliseconds, up to the port of its client; and its end, since no key is named and nothing was waited.
 const PEER: &[u8] = b"127.0.0.1:";
 
-const NO_KEY: &[u8] = b"-\n";
+const END: &[u8] = b"- 0\n";
 
 /// Asserts that a line of the log comes that has these bytes behind its time, then milliseconds and the client.
 fn is_logged<S: Read>(rt: &impl Abort, log: &mut S, bytes: &[u8]) {
@@ -123,7 +123,7 @@ fn is_logged<S: Read>(rt: &impl Abort, log: &mut S, bytes: &[u8]) {
     number_comes(rt, log);
     comes(rt, log, PEER);
     number_comes(rt, log);
-    comes(rt, log, NO_KEY);
+    comes(rt, log, END);
 }
 
 /// Asserts that digits come, and a space.
