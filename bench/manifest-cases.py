@@ -151,7 +151,7 @@ def lines(method, target, headers, body):
 
 
 def body_lines(body):
-    many = re.fullmatch(rb"\[((\{[^{}]*\},)\2{99,})(\{[^{}]*\}\])", body)
+    many = re.fullmatch(rb"\[((\{[^{}]*\},)\2{99,})(\{[^{}]*\}\]?)", body)
     if many:
         return [">. [", f">* {len(many[1]) // len(many[2])} {many[2].decode()}", f">. {many[3].decode()}"]
     if all(32 < b < 127 for b in body[:1] + body[-1:]) and all(32 <= b < 127 for b in body) and len(body) <= 1000:
@@ -216,7 +216,7 @@ def reply_of(kind, status, headers, body):
     return f"Manifest({shown_segments(segments_of('got', body))})" if large == ["True"] else "NotFound"
 
 
-PHRASES = {200: "OK", 201: "Created", 202: "Accepted", 204: "No Content", 206: "Partial Content", 400: "Bad Request", 404: "Not Found"}
+PHRASES = {200: "OK", 201: "Created", 202: "Accepted", 204: "No Content", 206: "Partial Content", 412: "Precondition Failed", 400: "Bad Request", 404: "Not Found"}
 PHRASES |= {401: "Unauthorized", 409: "Conflict", 413: "Content Too Large", 416: "Range Not Satisfiable", 422: "Unprocessable Content"}
 PHRASES |= {500: "Internal Server Error", 503: "Service Unavailable"}
 
@@ -226,11 +226,11 @@ PHRASES |= {500: "Internal Server Error", 503: "Service Unavailable"}
 PUT = [">n PUT /v1/a/photos/k?multipart-manifest=put HTTP/1.1", ">n X-Auth-Token: t", ">n Content-Type: text/plain", ">n Content-Length: 6", ">x 0a", ">. []", ">", ">"]
 
 
-def case_answer(kind, status, headers=(), body=b"", comment=None):
+def case_answer(kind, status, headers=(), body=b"", comment=None, fresh=False):
     say(comment)
     body = body if type(body) is bytes else body.encode()
     print("read-answer")
-    print("\n".join(PUT if kind == "put" else lines(*get())))
+    print("\n".join(PUT[:3] + [">n If-None-Match: *"] * fresh + PUT[3:] if kind == "put" else lines(*get())))
     print("\n".join(lines(f"HTTP/1.1 {status} {PHRASES[status]}", "", list(headers), body)))
     try:
         print(f"= Ok({reply_of(kind, status, headers, body)})")
@@ -301,6 +301,8 @@ def calls():
         case_call(put(body=body), comment)
         comment = None
     case_call(put(segments=[("c", "n", HELLO, 1)] * 1001), ["One segment more than a list may have."])
+    case_call(put(body=b"[" + b"{}," * 1000 + b"{}]"), ["More entries than that which are no segments, and a list of such that has no end."])
+    case_call(put(body=b"[" + b"{}," * 1000 + b"{}"))
     comment = ["Other queries, methods, and bodies; no Content-Type, or two; a piece of metadata twice."]
     for query in ("multipart-manifest=put&x=1", "x=1&multipart-manifest=put", "multipart-manifest=get", "multipart-manifest=PUT", "multipart-manifest",
                   "multipart-manifest=", "Multipart-Manifest=put", "multipart%2Dmanifest=put", "multipart-manifest=put&"):
@@ -323,6 +325,8 @@ def answers():
                "first empty line."]
     for etag in (JOINED, f'"{JOINED}"', f'W/"{JOINED}"', f'"{JOINED}', ""):
         case_answer("put", 201, [("Last-Modified", "Wed, 01 May 2024 10:00:00 GMT"), ("Etag", etag)], comment=comment)
+        if comment:
+            case_answer("put", 412, comment=["That an object is there, which only a PUT of bytes may be answered with (this profile)."], fresh=True)
         comment = None
     case_answer("put", 201)
     case_answer("put", 201, [("Etag", JOINED), ("ETag", JOINED)])

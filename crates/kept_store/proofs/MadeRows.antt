@@ -1,6 +1,6 @@
 -- An object that a call puts has a row.
 use Rattle.std.proofs.Common.{◌≡◌, refl, ap, ℕ, ◌<◌, true, List, [], ◌∷◌, length, arith}
-use Rattle.std.specs.Prelude.{nat_le, ◌&&◌}
+use Rattle.std.specs.Prelude.{nat_le}
 use Rattle.std.specs.List.{list_all}
 use Rattle.std.proofs.lemmas.Bool.{and_parts, and_from, le-leb}
 use Rattle.std.proofs.lemmas.Bool.Decides.{nat_tests}

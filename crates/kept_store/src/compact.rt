@@ -4,7 +4,7 @@ use crate::file::{
     FileConnection, FileFault, fault_of_beside, fault_of_open, open_beside, open_file,
 };
 use crate::statements;
-use crate::tables::{fault_of_statement, is_behind, last_commit, make, make_tables};
+use crate::tables::{fault_of_statement, make, make_tables, tested_commit};
 use body_files::path_beside;
 use sqlite::types::ValueRef;
 use sqlite::{Alter, Connection, Error, ErrorCode, params};
@@ -52,11 +52,7 @@ fn test_commits<S: Alter + Drop>(
     old: &mut Connection<S>,
 ) -> Result<(), FileFault> {
     let beside = open_beside(rt, path)?;
-    make_tables(old)?;
-    let last = last_commit(old)?;
-    if is_behind(&beside, last)? {
-        return Err(FileFault::Behind);
-    }
+    let _ = tested_commit(old, &beside)?;
     Ok(())
 }
 
@@ -102,20 +98,23 @@ fn put_in_place(
     old: FileConnection,
 ) -> Result<(), FileFault> {
     match old.close_files() {
-        Ok(_files) => {
-            // The files are open until here, so that no other process has them.
-            if fs::rename(rt, anew, path).is_err() {
-                remove_anew(rt, anew, log);
-                return Err(FileFault::CannotOpen);
-            }
-            let _ = fs::remove_file(rt, log);
-            sync_folder_of(rt, path)
-        }
+        // The files are open until it is done, so that no other process has them.
+        Ok(_files) => name_anew(rt, path, anew, log),
         Err((error, _)) => {
             remove_anew(rt, anew, log);
             Err(fault_of_open(error))
         }
     }
+}
+
+/// Gives the new file the name of the old one.
+fn name_anew(rt: &HostRuntime, path: &str, anew: &str, log: &str) -> Result<(), FileFault> {
+    if fs::rename(rt, anew, path).is_err() {
+        remove_anew(rt, anew, log);
+        return Err(FileFault::CannotOpen);
+    }
+    let _ = fs::remove_file(rt, log);
+    sync_folder_of(rt, path)
 }
 
 fn sync_folder_of(rt: &HostRuntime, path: &str) -> Result<(), FileFault> {

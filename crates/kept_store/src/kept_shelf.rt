@@ -12,14 +12,14 @@ ghost use Rattle.object_rows.specs.Rows.{HasRow};
 ghost use Rattle.sqlite.specs.Held.{state};
 ghost use Rattle.sqlite.specs.State.{HasCleanDisk, QueriesRow};
 ghost use Rattle.sqlite.specs.Values.{bound};
-ghost use Rattle.kept_store.specs.Kept.{Commits, CountsFault, HasPrefix, IsRowOf, Looks, Puts, kept_model, place_values, put_values};
+ghost use Rattle.kept_store.specs.Kept.{Commits, CountsFault, HasPrefix, IsRowOf, Looks, Puts, PutsRow, kept_model, place_values, put_values};
 ghost use Rattle.kept_store.specs.declared.statements.TheConstants.{PLACE, PUT};
 
 use crate::file::{FileFault, fault_of_beside};
 use crate::latest::{Latest, append_latest, append_part, found_in, is_latest, place_of_latest};
 use crate::rows::{container_in, head_in, is_out_of_memory, items_in, names_in, number_in, row_in};
 use crate::statements;
-use crate::tables::{commit, is_behind, last_commit, make_tables, placed_numbers};
+use crate::tables::{commit, placed_numbers, tested_commit};
 use body_files::{Beside, BodyFault, BodyFolder, Place, Settled, settle};
 use gate_base::{Bytes, List, Memory};
 use object_rows::{Row, RowFault, from_row, row_with_etag, row_with_place};
@@ -49,6 +49,13 @@ pub struct KeptShelf<S: Alter> {
     settled: Settled,
 }
 
+/// The numbers of the files of a put: of the body that stood there, and of the one that comes. None of a body that stands in a row.
+#[derive(Clone, Copy)]
+struct Files {
+    before: Option<u64>,
+    number: Option<u64>,
+}
+
 impl<S: Alter + Drop> KeptShelf<S> {
     /// A shelf over a connection, and what stands beside it. It makes the tables where they aren't there, and settles what a stop
     /// left of the files. NoDatabase: a statement was refused for another cause than memory, as where tables of these names have
@@ -58,14 +65,7 @@ impl<S: Alter + Drop> KeptShelf<S> {
         mut connection: Connection<S>,
         beside: Beside,
     ) -> Result<KeptShelf<S>, FileFault> {
-        make_tables(&mut connection)?;
-        let last = last_commit(&mut connection)?;
-        if is_behind(&beside, last)? {
-            return Err(FileFault::Behind);
-        }
-        let numbers = placed_numbers(alloc, &mut connection)?;
-        let settled = settle_beside(&beside, &numbers)?;
-        let next = settled.next.max(last.saturating_add(1));
+        let (settled, next) = begin(alloc, &mut connection, &beside)?;
         Ok(KeptShelf {
             alloc,
             connection,
@@ -264,12 +264,45 @@ impl<S: Alter + Drop> KeptShelf<S> {
             self.old.connection self.new.connection) }
     {
         let before = self.look_for_place(container, object.name.as_slice())?;
+        self.put_over(before, container, object, etag)
+    }
+
+    /// The same over the object whose body stands in the file of a number, or over one that has none.
+    fn put_over(
+        &mut self,
+        before: Option<u64>,
+        container: &[u8],
+        object: &Stored,
+        etag: Bytes,
+    ) -> Result<(), StoreFault>
+        requires row { HasRow object.now }
+        requires etag { etag ≡ etag_of object.now.content }
+        ensures faults { CountsStoreFaults self.old.faults self.new.faults result }
+        ensures runs { OnOk result (PutsRow (state S.Store) container.now object.now
+            self.old.connection self.new.connection) }
+    {
         let number = self.write_body(&object.content)?;
         let row = row_to_put(self.alloc, object, etag, number)?;
-        retire_body(&self.beside.bodies, before);
-        self.put_row(container, object.name.as_slice(), &row)?;
-        keep_body(&self.beside.bodies, number);
-        drop_body(&self.beside.bodies, before);
+        let files = Files { before, number };
+        self.put_row_of(&files, container, object.name.as_slice(), &row)
+    }
+
+    /// Puts a row, with what is done to its files before and after.
+    fn put_row_of(
+        &mut self,
+        files: &Files,
+        container: &[u8],
+        name: &[u8],
+        row: &Row,
+    ) -> Result<(), StoreFault>
+        ensures faults { CountsStoreFaults self.old.faults self.new.faults result }
+        ensures runs { OnOk result (Commits (state S.Store) PUT.now
+            (put_values container.now name.now row.now) self.old.connection self.new.connection) }
+    {
+        retire_body(&self.beside.bodies, files.before);
+        self.put_row(container, name, row)?;
+        keep_body(&self.beside.bodies, files.number);
+        drop_body(&self.beside.bodies, files.before);
         Ok(())
     }
 
@@ -405,6 +438,18 @@ impl<S: Alter + Drop> KeptShelf<S> {
             Err(fault) => Err(self.unread(fault)),
         }
     }
+}
+
+/// What a start finds of the tables and the files: it settles these. Beside it, a number above those of all commits and bodies.
+fn begin<S: Alter + Drop>(
+    alloc: Global,
+    connection: &mut Connection<S>,
+    beside: &Beside,
+) -> Result<(Settled, u64), FileFault> {
+    let last = tested_commit(connection, beside)?;
+    let numbers = placed_numbers(alloc, connection)?;
+    let settled = settle_beside(beside, &numbers)?;
+    Ok((settled, settled.next.max(last.saturating_add(1))))
 }
 
 fn settle_beside(beside: &Beside, numbers: &[u64]) -> Result<Settled, FileFault> {

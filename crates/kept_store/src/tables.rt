@@ -57,9 +57,7 @@ fn test_columns<S: Alter + Drop>(
 }
 
 /// The number of the last commit that the tables have: 0 where none was numbered.
-pub(crate) fn last_commit<S: Alter + Drop>(
-    connection: &mut Connection<S>,
-) -> Result<u64, FileFault> {
+fn last_commit<S: Alter + Drop>(connection: &mut Connection<S>) -> Result<u64, FileFault> {
     match connection.query_row(statements::LAST_COMMIT, &[]) {
         Ok(row) => match row.get(0) {
             Ok(number) => Ok(number),
@@ -71,11 +69,25 @@ pub(crate) fn last_commit<S: Alter + Drop>(
 }
 
 /// Whether a higher number than this stands beside the tables: a commit that was answered isn't in them.
-pub(crate) fn is_behind(beside: &Beside, last: u64) -> Result<bool, FileFault> {
+fn is_behind(beside: &Beside, last: u64) -> Result<bool, FileFault> {
     match beside.commits.number() {
         Ok(number) => Ok(last < number.unwrap_or(0)),
         Err(fault) => Err(fault_of_beside(fault)),
     }
+}
+
+/// The number of the last commit that the tables have, which are made where they aren't there. Behind: a higher one stands beside
+/// them.
+pub(crate) fn tested_commit<S: Alter + Drop>(
+    connection: &mut Connection<S>,
+    beside: &Beside,
+) -> Result<u64, FileFault> {
+    make_tables(connection)?;
+    let last = last_commit(connection)?;
+    if is_behind(beside, last)? {
+        return Err(FileFault::Behind);
+    }
+    Ok(last)
 }
 
 /// The numbers of the files that rows tell, in order.

@@ -1,5 +1,6 @@
 pub mod AcceptLemmas
 pub mod CallLemmas
+pub mod CountLemmas
 pub mod HeaderLemmas
 pub mod ListingLemmas
 pub mod ManifestLemmas

@@ -1,5 +1,5 @@
 -- The calls that a message makes, by what was read of it.
-use Rattle.std.proofs.Common.{◌≡◌, ℕ, Bool, true, false, cond, List, [], Option, Some, None, refl, ap, ◌∙◌}
+use Rattle.std.proofs.Common.{◌≡◌, ℕ, Bool, true, false, cond, List, [], Option, Some, None, refl, sym, ap, ◌∙◌}
 use Rattle.std.specs.Prelude.{codes, bytes_eq, option_map, option_and_then}
 use Rattle.http_wire.specs.declared.message.Message.{Message}
 use Rattle.s3_names.specs.Target.{query_text}
@@ -126,6 +126,14 @@ manifest_of container name (Some s) (Some t) (Some m) = refl
 by_list : (container name : List ℕ) (message : Message) → option_map (listing container name) (manifest_content message) ≡ put_manifest container name message
 unfolding manifest_content put_content
 by_list container name message = manifest_of container name (segments_in Put message.body) (only (codes "content-type") message.headers) (meta_in message.headers)
+
+-- a list of too many entries
+pub manifest_long : (content : Content) (message : Message) → Some content ≡ put_content message.headers → segments_in Put message.body ≡ None
+    → no_list ≡ manifest_content message
+unfolding manifest_content
+manifest_long content message given none =
+    ap (option_map (λ segments. (content, segments))) (sym none)
+    ∙ ap (option_and_then (λ (c : Content). option_map (λ segments. (c, segments)) (segments_in Put message.body))) given
 
 pub manifest_given : (container name content_type : List ℕ) (meta : List (List ℕ)) (segments : List Segment) (message : Message)
     → Some ((content_type, meta), segments) ≡ manifest_content message → Some (PutManifest container name content_type meta segments) ≡ put_manifest container name message

@@ -7,6 +7,7 @@ ghost use Rattle.swift_requests.specs.Calls.{ReadsCall, account_call, account_in
 
 use crate::Place;
 use crate::listings::{containers_listing_call, last_call_query_value, names_listing_call};
+use crate::long_lists::is_long_list;
 use crate::paths::{Path, account_in, read_call_path};
 use crate::ranges::call_range_in;
 use gate_base::{Bytes, List, Memory, Pair, cut};
@@ -325,7 +326,7 @@ fn fresh_by(value: &[u8]) -> Option<bool>
 }
 
 /// The type and the metadata of an object that is put, and the segments that it lists.
-#[tactic(auto, unfolding(crate::specs::Calls::manifest_content))]
+#[tactic(auto, using(crate::proofs::ReadingLemmas::manifest_long), unfolding(crate::specs::Calls::manifest_content))]
 fn manifest_content(
     alloc: Global,
     message: &Message,
@@ -335,6 +336,9 @@ fn manifest_content(
     let Some(content) = put_content(alloc, message.headers.as_slice())? else {
         return Ok(None);
     };
+    if is_long_list(alloc, message.body.as_slice())? {
+        return Ok(None);
+    }
     match spelled_segments_in(alloc, message.body.as_slice(), Form::Put)? {
         Some(segments) => Ok(Some((content, segments))),
         None => Ok(None),

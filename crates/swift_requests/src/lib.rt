@@ -8,6 +8,7 @@ mod call_writer;
 mod laws;
 mod link;
 mod listings;
+mod long_lists;
 mod paths;
 mod place;
 mod ranges;
