@@ -164,6 +164,11 @@ class Program:
             fields = file.read().rpartition(")")[2].split()
         return (int(fields[11]) + int(fields[12])) / os.sysconf("SC_CLK_TCK")
 
+    def peak(self):
+        """The most bytes of memory that it has had."""
+        with open(f"/proc/{self.process.pid}/status") as file:
+            return next(int(line.split()[1]) * 1024 for line in file if line.startswith("VmHWM:"))
+
 
 class Gate(Program):
     """`s3gate serve` over the store at that place, with further words."""
@@ -1424,6 +1429,15 @@ def the_log_of_swiftd(check):
     check("without a token", False, TOKEN.encode() in report or b"other" in report)
 
 
+@group()
+def a_list_of_too_many_entries_is_not_held(check):
+    target, body = f"/v1/{ACCOUNT}/c/k?multipart-manifest=put", b"[" + b"1," * 3_000_000 + b"1]"
+    with Swiftd() as store:
+        with store.client(swift("PUT", target, [("Content-Type", "t")], body)) as client:
+            check("a list of three million entries", 400, client.reply().status)
+        check("is not held: their text has 6 MB, and their values would have 96 MB", "", "" if store.peak() < 48_000_000 else f"{store.peak()} bytes")
+
+
 # Swift stores that fail.
 
 
@@ -2522,6 +2536,80 @@ def a_sweep_and_a_survey(check):
                 check("and so does the open upload", (200, 1), listed(gate.ask("GET", "/photos?uploads")))
     for command in ("sweep", "check"):
         check(f"{command} without a store", (4, b"s3gate: store\n"), night(NOWHERE, command))
+
+
+def lying(container, name, listed):
+    """What is done to each call: the list that is answered of this file, or of this container, is what `listed` makes of it."""
+
+    def act(store, call, stream):
+        if call.method != "GET" or (call.container, call.name) != (container, name):
+            return ordinary(store, call, stream)
+        status, headers, body = store.apply(call)
+        return answer(status, headers, json.dumps(listed(json.loads(body))).encode())(store, call, stream)
+
+    return {number: act for number in range(1, 100)}
+
+
+def each(change):
+    return lambda items: [{**it, **change(it)} for it in items]
+
+
+def files_of(account):
+    return {container: sorted(objects) for container, (_, objects) in account.items()}
+
+
+@group()
+def a_sweep_takes_no_list_that_lies(check):
+    """Of one bucket an object lists two parts, an upload is open, and a third part is left over. One answer is another than the account
+    has: where it contradicts itself, or the records, nothing is deleted, and the file at fault is named. The names are docs/PROFILE.md's."""
+    opened, lost = f"{11:032x}", f"{12:032x}"
+    begun = account({}, uploads={**JOINED, opened: ("o", {1: b"open"}), lost: ("w", {1: b"lost"})})
+    del begun["photos+uploads"][1][lost.encode()]
+    v, records = "photos v", "photos%2Buploads "
+    with Store(account={**begun, "+gateway": ([], {})}) as store:
+        with Gate(store.text, words=LEAST) as gate:
+            check("the upload is completed", "done", done(gate.ask(*COMPLETE)))
+        begun = copy.deepcopy(store.account)
+        for title, container, name, listed, at_fault in (
+            ("no list", "photos", b"v", lambda items: [], v),
+            ("the list of another id", "photos", b"v", each(lambda it: {"name": it["name"].replace(UPLOAD, opened)}), v),
+            ("a list that stands elsewhere", "photos", b"v", each(lambda it: {"name": it["name"].replace("+segments", "+uploads")}), v),
+            ("its first entry alone", "photos", b"v", lambda items: items[:1], v),
+            ("its last entry alone", "photos", b"v", lambda items: items[1:], v),
+            ("its entries the other way round", "photos", b"v", lambda items: items[::-1], v),
+            ("names that are cut", "photos", b"v", each(lambda it: {"name": it["name"][:-1]}), v),
+            ("other sizes", "photos", b"v", each(lambda it: {"bytes": it["bytes"] + 1}), v),
+            ("an empty object with the hash of another", "photos", None, each(lambda it: {"bytes": 0}), v),
+            ("another size", "photos", None, each(lambda it: {"bytes": it["bytes"] + 1}), v),
+            ("a listing without the object", "photos", None, lambda items: [], records + UPLOAD),
+            ("a listing without the open upload", "photos+uploads", None, lambda items: [it for it in items if it["name"] != opened], records + opened),
+            ("a listing without a record", "photos+uploads", None, lambda items: [], records + opened),
+        ):
+            wanted = (7, f"s3gate: inconsistent {at_fault}\n".encode())
+            for command in ("sweep", "check") if at_fault == v else ("sweep",):
+                store.account = copy.deepcopy(begun)
+                store.begin(lying(container, name, listed))
+                check(f"{title}: {command} names the file", wanted, night(store.text, command))
+                check("and nothing is deleted", files_of(begun), files_of(store.account))
+        store.account = copy.deepcopy(begun)
+        store.begin({})
+        check("a sweep of what the account has", (0, removed(1)), night(store.text, "sweep"))
+        with Gate(store.text) as gate:
+            check("the object stands", (200, b"helloworld"), both(gate.ask("GET", "/photos/v")))
+
+
+@group()
+def night_work_asks_all_replicas(check):
+    """Each HEAD and each GET of a file has X-Newest (Object Storage API v1, "Get object content and metadata" and "Show container
+    metadata"), and nothing else has: a listing has no newest."""
+    with Store(account={}) as store:
+        leave_over(check, "a scripted store", store)
+        for words in (["recover"], ["check"], ["sweep", "--forget-before", str(int(time.time()) + 86400)]):
+            store.begin({})
+            check(f"{words[0]} is done", 0, night(store.text, *words)[0])
+            by = lambda newest: {call.method if call.name or call.method != "GET" else "listing" for call in store.calls if (call.headers.get("x-newest") == "true") == newest}
+            wanted = {"recover": ({"GET"}, {"PUT"}), "check": ({"HEAD", "GET"}, {"listing"}), "sweep": ({"HEAD", "GET"}, {"listing", "PUT", "DELETE"})}[words[0]]
+            check("HEADs and GETs of files ask all replicas, and no other call does", wanted, (by(True), by(False)))
 
 
 @group()

@@ -50,7 +50,7 @@ module _ (tree : SwiftAccount) (folder name : List ℕ) where
     | inr a ↦ ap is_some (off_adjust by_name folder (on_files (λ fs. remove fs name)) tree n a)
   ]
 
-  deletes_one : Deletes folder (name ∷ []) tree new
+  pub deletes_one : Deletes folder (name ∷ []) tree new
   deletes_one = record {
     touches = record { others = off_folder; stays = still_there folder };
     left = ap files_of (at_adjust by_name folder (on_files (λ fs. remove fs name)) tree) ∙ files_by name (get tree folder);

@@ -81,14 +81,14 @@ take_within i xs near = omega (arith, near, length-take i xs)
 
 -- ---- one text more
 
-or_true : (t : Bool) → (t || true) ≡ true
-or_true true = refl
-or_true false = refl
+pub or_true_first : (t : Bool) → (t || true) ≡ true
+or_true_first true = refl
+or_true_first false = refl
 
 pub put_adds : (t : Names Bool) (name text : List ℕ) → is_some (get (insert t name true) text) ≡ (is_some (get t text) || bytes_eq name text)
 put_adds t name text = elim (same_key by_name text name) [
   | inl e ↦
-      ap (λ n. is_some (get (insert t name true) n)) e ∙ ap is_some (at_insert by_name t name true) ∙ sym (or_true (is_some (get t text)))
+      ap (λ n. is_some (get (insert t name true) n)) e ∙ ap is_some (at_insert by_name t name true) ∙ sym (or_true_first (is_some (get t text)))
       ∙ ap (λ b. is_some (get t text) || b) (sym (ap (bytes_eq name) e ∙ sym (is_eq-slice_cmp name name) ∙ key_itself by_name name))
   | inr a ↦
       ap is_some (off_insert by_name t name true text a) ∙ sym (or_end (is_some (get t text)))
@@ -183,7 +183,7 @@ all_take P zero (x ∷ xs) h = tt
 all_take P (suc n) [] h = tt
 all_take P (suc n) (x ∷ xs) h = (h.0, all_take P n xs h.1)
 
-items_are : (folder marker : List ℕ) (tree : SwiftAccount) (told : List NameItem) → TellsFiles folder [] marker tree told → AllByRecursion (IsItemOf (files tree folder)) told
+pub items_are : (folder marker : List ℕ) (tree : SwiftAccount) (told : List NameItem) → TellsFiles folder [] marker tree told → AllByRecursion (IsItemOf (files tree folder)) told
 items_are folder marker tree told tells =
     let fs = files tree folder in
     subst (AllByRecursion (IsItemOf fs)) (sym tells.items)

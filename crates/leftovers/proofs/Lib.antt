@@ -1,6 +1,9 @@
+pub mod AskWalk
+pub mod AskedAgain
 pub mod Counts
 pub mod DeletesOne
 pub mod Gathers
+pub mod Held
 pub mod Items
 pub mod Listings
 pub mod Markers
@@ -9,13 +12,17 @@ pub mod NoneLeft
 pub mod PageSweep
 pub mod RecordReads
 pub mod Removals
+pub mod SaidFiles
 pub mod SealedNames
 pub mod SegmentNames
+pub mod SegmentsHeeded
 pub mod SegmentsSwept
 pub mod SideGone
+pub mod Sparing
 pub mod Strays
 pub mod SubManifests
 pub mod SweepWalk
 pub mod Unused
 pub mod UnusedGone
+pub mod WholeLists
 pub mod lemmas

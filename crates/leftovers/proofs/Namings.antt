@@ -21,7 +21,7 @@ use Rattle.account_calls.specs.Listing.{TellsOf}
 use Rattle.account_calls.proofs.lemmas.Ask.{asks_fault, asks_told}
 use Rattle.account_calls.proofs.lemmas.Faults.{err_is}
 use Rattle.account_calls.proofs.lemmas.Quiet.{asks_failed, told_here}
-use Rattle.leftovers.specs.Gathering.{any_names, AreKnown, HasItem, HasListing, IsKnown, IsKnownBy, segments_at, sub_manifests_in, TellsAdded, TellsInner, TellsListing, TellsNamed}
+use Rattle.leftovers.specs.Gathering.{any_names, AreKnown, HasInner, HasItem, IsKnown, IsKnownBy, segments_at, sub_manifests_in, TellsAdded, TellsInner, TellsListing, TellsNamed}
 use Rattle.leftovers.specs.Leftovers.{is_named_in, is_sub_manifest_name, names_segment}
 use Rattle.leftovers.specs.declared.gathering.Source.TheVariants.{Objects}
 use Rattle.leftovers.proofs.lemmas.Counted.{filter_append, subs_one}
@@ -70,7 +70,7 @@ sub_named tree bucket s old mid new name named grown inner text =
     ∙ ap (λ b. is_some (get old text) || b) (sym (or_end (bytes_eq s.name text || listed)))
 
 pub sub_added : {a b : History} (bucket : List ℕ) (s : Segment) (old mid new : Names Bool) (name : List ℕ) → name ≡ s.name → is_sub_manifest_name s.name ≡ true → mid ≡ insert old name true → (result : Result (Unit {0}) PlanFault)
-    → Asks (always 1) a b (HasListing (segments_name bucket) s.name) (TellsOf (TellsInner bucket s.name mid new)) result
+    → Asks (always 1) a b (HasInner bucket s) (TellsOf (TellsInner bucket s.name mid new)) result
     → Asks (always (sub_manifests_in (s ∷ []))) a b (IsKnown bucket s) (TellsOf (TellsNamed bucket (s ∷ []) old new)) result
 sub_added bucket s old mid new name named so grown result asks =
     asks_room (omega (arith, subs_one s true so))

@@ -1,5 +1,5 @@
 -- The sweep of the segments of a bucket that is there.
-use Rattle.std.specs.Prelude.{◌≡◌, ◌≤◌, ◌-◌, ◌||◌, ℕ, Bool, true, false, not, bytes_eq, List, [], map, length, is_some, Result, Ok, Err}
+use Rattle.std.specs.Prelude.{◌≡◌, ◌≤◌, ◌+◌, ◌-◌, ◌||◌, ℕ, Bool, true, false, not, bytes_eq, List, [], map, length, is_some, Result, Ok, Err}
 use Rattle.std.specs.Result.{IsErrAnd}
 use Rattle.std.specs.List.{list_all}
 use Rattle.std.specs.Ordering.{is_lt}
@@ -23,6 +23,8 @@ use Rattle.account_calls.proofs.lemmas.Faults.{err_is}
 use Rattle.account_calls.proofs.lemmas.Quiet.{asks_untold}
 use Rattle.leftovers.proofs.lemmas.Readings.{asks_account}
 use Rattle.account_calls.proofs.lemmas.Removal.{all_after_none}
+use Rattle.account_calls.proofs.lemmas.Ask.{asks_told}
+use Rattle.leftovers.specs.Asking.{asking_calls, HasUnused, TellsNothing}
 use Rattle.leftovers.specs.Kept.{goes}
 use Rattle.leftovers.specs.declared.kept.Kept.{Kept}
 use Rattle.leftovers.specs.Leftovers.{id_in, is_listed_in, is_open, is_orphan, is_sealed_in, is_used}
@@ -90,8 +92,30 @@ module _ (bucket : List ℕ) (kept : Kept) (is : is_bucket bucket ≡ true) wher
       let going = filter_few (λ e. goes kept e.0) (entries (files tree (segments_name bucket))) in
       omega (arith, rows, going, len-entries (files tree (segments_name bucket)))
 
-  pub segments_swept : {a b c : History} {folder : List ℕ} → folder ≡ segments_name bucket
+  -- what is kept was had, and all that goes was asked for
+  pub segments_asked : {a b c : History} {folder : List ℕ} → folder ≡ segments_name bucket
       → Asks (by_account (kept_calls (present a) bucket)) a b (HasSettled bucket) (TellsOf (TellsKept bucket)) (Ok kept)
+      → Asks (by_account (asking_calls (present b) folder)) b c (HasUnused bucket (goes kept)) (TellsOf TellsNothing) (Ok tt)
+      → Asks (by_account (kept_calls (present a) bucket + asking_calls (present a) (segments_name bucket))) a c (HasSettled bucket) (TellsOf (TellsKept bucket)) (Ok kept)
+  segments_asked {a = a} {b = b} {c = c} named first then =
+      asks_then_by first (asks_told {given' = HasUnused bucket (goes kept)} {Q = λ tree y. y ≡ kept} (λ tree has. has) kept (λ tree sound has told. refl) then)
+      (λ old new sound alike has told. subst (HasUnused bucket (goes kept)) (sym told.same) (record { there = has.there; unused = told.of_account }))
+      (λ old new last y sound has told next. record { of_account = subst (TellsKept bucket old) (sym next.of_account) told.of_account; same = next.same ∙ told.same })
+      (λ met told. omega (arith, ap (asking_calls (present b)) named, ap (λ tree. asking_calls tree (segments_name bucket)) told.same))
+
+  -- it wasn't
+  pub segments_unasked : {a b c : History} {folder : List ℕ} {f : PlanFault} → folder ≡ segments_name bucket
+      → Asks (by_account (kept_calls (present a) bucket)) a b (HasSettled bucket) (TellsOf (TellsKept bucket)) (Ok kept)
+      → Asks (by_account (asking_calls (present b) folder)) b c (HasUnused bucket (goes kept)) (TellsOf TellsNothing) (Err f)
+      → (result : Result ℕ PlanFault) → IsErrAnd result (λ e. e ≡ f) → Asks (by_account (segments_calls (present a) bucket)) a c (HasSettled bucket) (SweepsSegments bucket) result
+  segments_unasked {a = a} {b = b} {c = c} {f = f} named first then result gives = subst (Asks (by_account (segments_calls (present a) bucket)) a c (HasSettled bucket) (SweepsSegments bucket)) (sym (err_is result f gives))
+      (asks_then_by {Q = λ old new y. ⊥} first (asks_untold f then)
+      (λ old new sound alike has told. subst (HasUnused bucket (goes kept)) (sym told.same) (record { there = has.there; unused = told.of_account }))
+      (λ old new last y sound has told never. absurd never)
+      (λ met told. omega (arith, ap (asking_calls (present b)) named, ap (λ tree. asking_calls tree (segments_name bucket)) told.same)))
+
+  pub segments_swept : {a b c : History} {folder : List ℕ} → folder ≡ segments_name bucket
+      → Asks (by_account (kept_calls (present a) bucket + asking_calls (present a) (segments_name bucket))) a b (HasSettled bucket) (TellsOf (TellsKept bucket)) (Ok kept)
       → (result : Result ℕ PlanFault) → Asks (by_account (sweep_calls (present b) folder (goes kept) [])) b c (MaySweep folder bucket (goes kept) []) (TellsAll folder (goes kept)) result
       → Asks (by_account (segments_calls (present a) bucket)) a c (HasSettled bucket) (SweepsSegments bucket) result
   segments_swept {a = a} {b = b} {c = c} named first result then =

@@ -8,8 +8,9 @@ use Rattle.std.proofs.lemmas.Map.Text.{is_eq-slice_cmp}
 use Rattle.gate_base.specs.Maps.{Names, name_cmp}
 use Rattle.gate_base.proofs.lemmas.Maps.{by_name, at_remove, get_empty, off_remove}
 use Rattle.swift_calls.specs.Account.{SwiftAccount, SwiftContainer, files, files_of}
-use Rattle.swift_calls.specs.History.{History, present}
+use Rattle.swift_calls.specs.History.{History, Calls, present}
 use Rattle.swift_calls.specs.Step.{delete_by, delete_container, head_container, is_bare, swift_step}
+use Rattle.swift_calls.specs.declared.calls.SwiftReply.{SwiftReply}
 use Rattle.swift_calls.specs.declared.calls.SwiftRequest.TheVariants.{DeleteContainer, HeadContainer}
 use Rattle.upload_records.specs.Native.{IsSettled}
 use Rattle.upload_records.specs.Consistent.{IsBeside, IsConsistent}
@@ -18,12 +19,12 @@ use Rattle.upload_records.proofs.lemmas.Sides.{bucket_side, gateway_side}
 use Rattle.account_calls.specs.declared.fault.PlanFault.{PlanFault}
 use Rattle.account_calls.specs.Calls.{always, by_account, Any, Asks}
 use Rattle.account_calls.proofs.lemmas.Faults.{err_is}
-use Rattle.account_calls.proofs.lemmas.One.{IsReadingOf}
+use Rattle.account_calls.proofs.lemmas.One.{IsReadingOf, found}
 use Rattle.account_calls.proofs.lemmas.Quiet.{IsQuietOf, asks_untold}
 use Rattle.leftovers.specs.Kept.{goes}
 use Rattle.leftovers.specs.declared.kept.Kept.{Kept}
 use Rattle.leftovers.specs.Leftovers.{id_in}
-use Rattle.leftovers.specs.Strays.{clear_calls, removed_due, there_due, ClearsSide, IsBareStray, IsStray, Removes, TellsThere}
+use Rattle.leftovers.specs.Strays.{clear_calls, removed_due, there_due, ClearsSide, IsBareStray, IsStray, LeavesNone, Removes, SaysThere, TellsThere}
 use Rattle.leftovers.specs.Sweeping.{MaySweep, TellsAll, is_beside_none, passing, sweep_calls, file_calls}
 use Rattle.leftovers.proofs.lemmas.Joined.{asks_then_by}
 use Rattle.leftovers.proofs.NoneLeft.{none_length}
@@ -187,3 +188,33 @@ module _ (folder bucket : List ℕ) (beside : IsBeside folder bucket) (kept : Ke
         effect = λ met. untold.effect (record { observable = met.observable; sound = met.sound; has = may _ met.sound met.has });
         settled = untold.settled;
       })
+
+-- ---- over every observable store
+
+-- what HEAD tells is whether the container stands there
+pub says_there : {a b : History} {name container : List ℕ} {reply : SwiftReply} → container ≡ name → Calls a b (HeadContainer container) (Ok reply)
+    → (result : Result Bool PlanFault) → result ≡ there_due reply → SaysThere name a result
+says_there named calls (Err f) is = λ observable. tt
+says_there {a = a} {b = b} {container = container} named calls (Ok told) is = λ observable.
+    let same : Ok told ≡ Ok (is_some (get (b.account_at a.called) container)) = is ∙ ap there_due (calls.effect observable).reply ∙ head_told (get (b.account_at a.called) container) (b.account_at a.called) in
+    let so : told ≡ is_some (get (b.account_at a.called) container) = cc in
+    so ∙ (λ i. is_some (get (found calls observable i) (named i)))
+
+gone_by : (o : Option SwiftContainer) (name : List ℕ) (tree : SwiftAccount) → removed_due (delete_container o name tree).reply ≡ Ok tt → get (delete_container o name tree).tree name ≡ None
+gone_by None name tree says = cc
+gone_by (Some folder) name tree says = by (is_bare folder) says
+  where
+    by : (bare : Bool) → removed_due (delete_by bare name tree).reply ≡ Ok tt → get (delete_by bare name tree).tree name ≡ None
+    by true says = at_remove by_name tree name
+    by false says = cc
+
+-- a container is gone whose DELETE told so
+pub gone_after : {a b : History} {folder container : List ℕ} {reply : SwiftReply} → container ≡ folder → Calls a b (DeleteContainer container) (Ok reply)
+    → (result : Result (Unit {0}) PlanFault) → result ≡ removed_due reply → LeavesNone folder b result
+gone_after named calls (Err f) is = record { so = λ observable. tt }
+gone_after {a = a} {b = b} {container = container} named calls (Ok done) is = record {
+  so = λ observable.
+      let replied = calls.effect (calls.told observable) in
+      let there = gone_by (get (b.account_at a.called) container) container (b.account_at a.called) (sym (is ∙ ap removed_due replied.reply)) in
+      (λ i. get (replied.tree i) (sym named i)) ∙ there;
+}

@@ -19,6 +19,7 @@ use Rattle.upload_records.specs.Consistent.{IsListedPart, AreParts, IsSubManifes
 use Rattle.upload_records.proofs.lemmas.Subs.{length-sub_segments, sub_manifests_few, take_run}
 use Rattle.leftovers.specs.Gathering.{AreKnown, IsKnown, IsKnownBy, segments_at, sub_manifests_in}
 use Rattle.leftovers.specs.Leftovers.{is_named_in, is_sub_manifest_name, names_segment, segments_in}
+use Rattle.leftovers.proofs.WholeLists.{run_whole}
 use Rattle.leftovers.proofs.SegmentNames.{part_name_not, sub_name_is}
 
 pub or_false : (a b : Bool) → (a || b) ≡ false → (a ≡ false) × (b ≡ false)
@@ -122,33 +123,33 @@ module _ (tree : SwiftAccount) (bucket : List ℕ) (id : ℕ) where
         ap (λ t. length (cond t (s ∷ filter (λ (x : Segment). is_sub_manifest_name x.name) parts) (filter (λ (x : Segment). is_sub_manifest_name x.name) parts))) no ∙ later.1,
       )
 
-  -- a sub-manifest has a list
-  sub_known : (parts : List Segment) (n : ℕ) → IsSubManifestOf S (id_digits id) parts n → IsKnown bucket (sub_segment (segments_name bucket) (id_digits id) n (run n parts)) tree
-  sub_known parts n sub = subst (λ t. IsKnownBy t bucket (sub_segment (segments_name bucket) (id_digits id) n (run n parts)) tree) (sym (sub_name_is id (n + 1)))
-      (record { file = sub.file; listed = run n parts; found = sub.there; lists = sub.own })
+  -- a sub-manifest has a whole list
+  sub_known : (parts : List Segment) (n : ℕ) → AreParts S (segments_name bucket) (id_digits id) 0 parts → n < sub_manifests (length parts) → IsSubManifestOf S (id_digits id) parts n → IsKnown bucket (sub_segment (segments_name bucket) (id_digits id) n (run n parts)) tree
+  sub_known parts n are below sub = subst (λ t. IsKnownBy t bucket (sub_segment (segments_name bucket) (id_digits id) n (run n parts)) tree) (sym (sub_name_is id (n + 1)))
+      (record { has = record { file = sub.file; listed = run n parts; found = sub.there; lists = sub.own }; whole = run_whole S (segments_name bucket) id parts n are below })
 
-  subs_known : (parts : List Segment) (n : ℕ) → HasSubManifests S (id_digits id) parts n → AreKnown bucket (sub_segments (segments_name bucket) (id_digits id) parts n) tree
+  subs_known : (parts : List Segment) (n : ℕ) → AreParts S (segments_name bucket) (id_digits id) 0 parts → n ≤ sub_manifests (length parts) → HasSubManifests S (id_digits id) parts n → AreKnown bucket (sub_segments (segments_name bucket) (id_digits id) parts n) tree
   unfolding sub_segments
-  subs_known parts zero subs = tt
-  subs_known parts (suc n) subs =
+  subs_known parts zero are near subs = tt
+  subs_known parts (suc n) are near subs =
       all_append (λ s. IsKnown bucket s tree) (sub_segments (segments_name bucket) (id_digits id) parts n) (sub_segment (segments_name bucket) (id_digits id) n (run n parts) ∷ [])
-      (subs_known parts n (λ k below. subs k (omega (arith, below)))) (sub_known parts n (subs n (omega arith)), tt)
+      (subs_known parts n are (omega (arith, near)) (λ k below. subs k (omega (arith, below)))) (sub_known parts n are (omega (arith, near)) (subs n (omega arith)), tt)
 
-  known_by : (parts : List Segment) (t : Bool) → AreParts S (segments_name bucket) (id_digits id) 0 parts → HasSubManifests S (id_digits id) parts (cond t 0 ((length parts + 999) / MOST_SEGMENTS))
+  known_by : (parts : List Segment) (t : Bool) → cond t 0 ((length parts + 999) / MOST_SEGMENTS) ≤ sub_manifests (length parts) → AreParts S (segments_name bucket) (id_digits id) 0 parts → HasSubManifests S (id_digits id) parts (cond t 0 ((length parts + 999) / MOST_SEGMENTS))
       → cond t 0 ((length parts + 999) / MOST_SEGMENTS) ≤ 10
       → AreKnown bucket (cond t parts (sub_segments (segments_name bucket) (id_digits id) parts (cond t 0 ((length parts + 999) / MOST_SEGMENTS)))) tree
       × (sub_manifests_in (cond t parts (sub_segments (segments_name bucket) (id_digits id) parts (cond t 0 ((length parts + 999) / MOST_SEGMENTS)))) ≤ 10)
-  known_by parts true are subs few = let known = parts_known 0 parts are in (known.0, omega (arith, known.1))
-  known_by parts false are subs few =
+  known_by parts true near are subs few = let known = parts_known 0 parts are in (known.0, omega (arith, known.1))
+  known_by parts false near are subs few =
       let count = (length parts + 999) / MOST_SEGMENTS in
       let list = sub_segments (segments_name bucket) (id_digits id) parts count in
       let less = filter_less (λ (x : Segment). is_sub_manifest_name x.name) list in
       let size = length-sub_segments (segments_name bucket) (id_digits id) parts count in
-      (subs_known parts count subs, omega (arith, less, size, few))
+      (subs_known parts count are near subs, omega (arith, less, size, few))
 
   -- each segment that a completed object lists is a part or a sub-manifest, and of these there are ten at most
   pub list_known : (listed : List Segment) → IsSegmentList S (segments_name bucket) (id_digits id) listed → AreKnown bucket listed tree × (sub_manifests_in listed ≤ 10)
   unfolding listing_by
   list_known listed list =
       subst (λ l. AreKnown bucket l tree × (sub_manifests_in l ≤ 10)) (sym list.lists)
-      (known_by list.parts (nat_le (length list.parts) MOST_SEGMENTS) list.are list.subs (sub_manifests_few (length list.parts) list.few))
+      (known_by list.parts (nat_le (length list.parts) MOST_SEGMENTS) (omega arith) list.are list.subs (sub_manifests_few (length list.parts) list.few))

@@ -1,5 +1,6 @@
 pub mod Consistency
 pub mod Counted
+pub mod Faults
 pub mod FileNames
 pub mod Joined
 pub mod KeptOf
@@ -7,3 +8,4 @@ pub mod Lists
 pub mod PageRead
 pub mod Readings
 pub mod Touched
+pub mod Walked

@@ -20,7 +20,8 @@ use Rattle.account_calls.specs.FilePages.{rows_after}
 use Rattle.list_pages.specs.declared.page.TheConstants.{MOST_NAMES}
 use Rattle.leftovers.specs.declared.gathering.Source.{Source}
 use Rattle.leftovers.specs.declared.gathering.Source.TheVariants.{Records, Objects}
-use Rattle.leftovers.specs.Leftovers.{is_named_in, is_open, is_sub_manifest_name, names_segment, segments_in}
+use Rattle.leftovers.specs.Lists.{is_whole_list}
+use Rattle.leftovers.specs.Leftovers.{id_in, is_named_in, is_open, is_sub_manifest_name, names_segment, segments_in}
 
 -- ---- what a file adds
 
@@ -82,10 +83,15 @@ pub record HasListing (container name : List ℕ) (tree : SwiftAccount) : Type 0
   pub found : find_object tree container name ≡ Some file
   pub lists : file.content ≡ Segments listed
 
+-- a sub-manifest beside a bucket that an object lists: its list is whole, under the id of its name
+pub record HasInner (bucket : List ℕ) (s : Segment) (tree : SwiftAccount) : Type 0 where
+  pub has : HasListing (segments_name bucket) s.name tree
+  pub whole : is_whole_list false (segments_name bucket) (id_in s.name) s.size has.listed ≡ true
+
 -- a segment that an object of the bucket lists: a part, which lists none, or a sub-manifest, which has a list
 abbrev pub IsKnownBy : Bool → List ℕ → Segment → SwiftAccount → Type 0
 IsKnownBy false bucket s tree = segments_at tree (segments_name bucket) s.name ≡ []
-IsKnownBy true bucket s tree = HasListing (segments_name bucket) s.name tree
+IsKnownBy true bucket s tree = HasInner bucket s tree
 
 abbrev pub IsKnown : List ℕ → Segment → SwiftAccount → Type 0
 IsKnown bucket s tree = IsKnownBy (is_sub_manifest_name s.name) bucket s tree

@@ -1,7 +1,10 @@
+pub mod Asking
+pub mod Faults
 pub mod Gathering
 pub mod Kept
 pub mod Laws
 pub mod Leftovers
+pub mod Lists
 pub mod Records
 pub mod Segments
 pub mod Sides

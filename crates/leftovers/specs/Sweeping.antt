@@ -1,5 +1,5 @@
 -- The files of a container beside a bucket of which some are deleted, page by page. Source: this profile.
-use Rattle.std.specs.Prelude.{◌≡◌, ◌≤◌, ◌+◌, ℕ, Bool, true, false, not, List, [], map, length, Option, None, Some, Result, Ok, Err}
+use Rattle.std.specs.Prelude.{◌≡◌, ◌≤◌, ◌+◌, ℕ, Bool, true, false, not, bytes_eq, IsTrue, List, [], map, length, Option, None, Some, Result, Ok, Err}
 use Rattle.std.specs.List.{filter, list_all}
 use Rattle.std.specs.Ordering.{is_lt}
 use Rattle.std.specs.FinMap.{entries, get, len}
@@ -69,6 +69,15 @@ after_marker marker fs = behind marker (entries fs)
 -- the files that don't pass the test stayed
 abbrev pub OthersStay : List ℕ → (List ℕ → Bool) → SwiftAccount → SwiftAccount → Type 0
 OthersStay folder test old new = (name : List ℕ) → test name ≡ false → get (files new folder) name ≡ get (files old folder) name
+
+-- nothing but files of this container that pass the test went
+pub record Spares (folder : List ℕ) (test : List ℕ → Bool) (old new : SwiftAccount) : Type 0 where
+  pub others : (name : List ℕ) → bytes_eq name folder ≡ false → get new name ≡ get old name
+  pub stays : OthersStay folder test old new
+
+-- over every observable store, whatever comes of it
+pub record SparesThen (folder : List ℕ) (test : List ℕ → Bool) (old new : History) : Type 0 where
+  pub so : IsTrue old.observable → Spares folder test (present old) (present new)
 
 -- so many files went from the container, and no other container changed
 pub record Sweeps (folder : List ℕ) (test : List ℕ → Bool) (count : ℕ) (old new : SwiftAccount) : Type 0 where

@@ -1,5 +1,5 @@
 //! The loop over the files of a container beside a bucket, of which those go that nothing keeps.
-ghost use Rattle.std.specs.Prelude.{◌≡◌, ◌<◌, ◌≤◌, ◌+◌, ◌^◌, ℕ, List, Bool, [], ◌∷◌, length, map, true, IfOk, IfSome};
+ghost use Rattle.std.specs.Prelude.{◌≡◌, ◌<◌, ◌≤◌, ◌+◌, ◌^◌, ℕ, List, Bool, [], ◌∷◌, length, map, true, IfErr, IfOk, IfSome};
 ghost use Rattle.std.specs.List.{filter, list_all};
 ghost use Rattle.s3_names.specs.Key.{is_key};
 ghost use Rattle.list_pages.specs.Listing.{name_in, IsPageOf};
@@ -10,9 +10,12 @@ ghost use Rattle.account_calls.specs.Calls.{always, by_account, Any, Asks};
 ghost use Rattle.account_calls.specs.FilePages.{TellsFiles};
 ghost use Rattle.account_calls.specs.Listing.{TellsOf};
 ghost use Rattle.account_calls.specs.Told.{LeavesThroughout};
+ghost use Rattle.leftovers.specs.Faults.{as_plan, NamesFile};
 ghost use Rattle.leftovers.specs.Kept.{goes};
-ghost use Rattle.leftovers.specs.Sweeping.{sweep_calls, MayDelete, MaySweep, PaysPage, TellsAll, TellsDeleted, TellsPage, TellsSwept};
+ghost use Rattle.leftovers.specs.Lists.{SaysFiles};
+ghost use Rattle.leftovers.specs.Sweeping.{sweep_calls, MayDelete, MaySweep, PaysPage, SparesThen, TellsAll, TellsDeleted, TellsPage, TellsSwept};
 
+use crate::fault::{SweepFault, file_fault};
 use crate::kept::Kept;
 use account_calls::{PlanFault, ask, interpret_file_delete, next_marker};
 use gate_base::{Bytes, Copying, List};
@@ -20,12 +23,9 @@ use list_pages::names;
 use std::alloc::Global;
 use swift_calls::{NameItem, Swift, SwiftRequest};
 
-/// A page of the files of a container after a marker, by GET of the container (Object Storage API v1, "Show container details and
-/// list objects"): at most 1000 of them, in byte order of the names, and none of a container that is missing. At most one call, and the
-/// account stays as it is. Failed comes only where the store's count of faults rose; Memory where memory ran out; Inconsistent never over
-/// an observable consistent account.
+/// A page of the files of a container after a marker.
 #[tactic(auto, using(crate::proofs::Markers::empty_is_marker))]
-pub fn file_page<W: Swift>(
+fn listed_page<W: Swift>(
     alloc: Global,
     store: &mut W,
     folder: &[u8],
@@ -38,9 +38,36 @@ pub fn file_page<W: Swift>(
     ensures page { IfOk result (λ items. IsPageOf [] marker.now (map name_in items)) }
     ensures asks { Asks (always 1) (W.history store.old) (W.history store.new) Any
         (TellsOf (TellsFiles folder.now [] marker.now)) result }
+    ensures says { SaysFiles folder.now marker.now (W.history store.old) result }
     ensures leaves { LeavesThroughout (W.history store.old) (W.history store.new) }
 {
     Ok(names(alloc, store, folder, b"", marker)?)
+}
+
+/// A page of the files of a container after a marker, by GET of the container (Object Storage API v1, "Show container details and
+/// list objects"): at most 1000 of them, in byte order of the names, and none of a container that is missing. At most one call, and the
+/// account stays as it is. Failed comes only where the store's count of faults rose; Memory where memory ran out; Inconsistent, of
+/// the container, never over an observable consistent account.
+pub fn file_page<W: Swift>(
+    alloc: Global,
+    store: &mut W,
+    folder: &[u8],
+    marker: &[u8],
+) -> Result<List<NameItem>, SweepFault>
+    requires folder { IsContainerName folder.now }
+    requires marker { IsMarker marker.now }
+    ensures counted { IfOk result (λ _. (W.history store.old).called < budget
+        × ((W.history store.new).called ≡ (W.history store.old).called + 1)) }
+    ensures page { IfOk result (λ items. IsPageOf [] marker.now (map name_in items)) }
+    ensures asks { Asks (always 1) (W.history store.old) (W.history store.new) Any
+        (TellsOf (TellsFiles folder.now [] marker.now)) (as_plan result) }
+    ensures says { SaysFiles folder.now marker.now (W.history store.old) result }
+    ensures leaves { LeavesThroughout (W.history store.old) (W.history store.new) }
+{
+    match listed_page(alloc, store, folder, marker) {
+        Ok(page) => Ok(page),
+        Err(fault) => Err(file_fault(alloc, fault, folder, b"")),
+    }
 }
 
 /// Deletes a file of a container beside a bucket, by DELETE of it (Object Storage API v1, "Delete object"). At most one call.
@@ -53,6 +80,8 @@ fn delete_leftover<W: Swift>(store: &mut W, folder: &Bytes, name: &Bytes) -> Res
     ensures asks { (bucket : List ℕ) (test : List ℕ → Bool) → test name.now ≡ true
         → Asks (always 1) (W.history store.old) (W.history store.new)
         (MayDelete folder.now bucket test) (TellsDeleted folder.now bucket test (name.now ∷ [])) result }
+    ensures spares { (test : List ℕ → Bool) → test name.now ≡ true
+        → SparesThen folder.now test (W.history store.old) (W.history store.new) }
 {
     let container = folder.copy()?;
     let name = name.copy()?;
@@ -60,13 +89,39 @@ fn delete_leftover<W: Swift>(store: &mut W, folder: &Bytes, name: &Bytes) -> Res
     interpret_file_delete(&reply)
 }
 
+/// The same, with a fault that names the file.
+fn sweep_item<W: Swift>(
+    alloc: Global,
+    store: &mut W,
+    folder: &Bytes,
+    name: &Bytes,
+) -> Result<(), SweepFault>
+    requires folder { IsContainerName folder.now }
+    requires name { is_key name.now ≡ true }
+    ensures counted { IfOk result (λ _. (W.history store.old).called < budget
+        × ((W.history store.new).called ≡ (W.history store.old).called + 1)) }
+    ensures names { IfErr result (NamesFile folder.now name.now) }
+    ensures asks { (bucket : List ℕ) (test : List ℕ → Bool) → test name.now ≡ true
+        → Asks (always 1) (W.history store.old) (W.history store.new)
+        (MayDelete folder.now bucket test) (TellsDeleted folder.now bucket test (name.now ∷ []))
+        (as_plan result) }
+    ensures spares { (test : List ℕ → Bool) → test name.now ≡ true
+        → SparesThen folder.now test (W.history store.old) (W.history store.new) }
+{
+    match delete_leftover(store, folder, name) {
+        Ok(()) => Ok(()),
+        Err(fault) => Err(file_fault(alloc, fault, folder.as_slice(), name.as_slice())),
+    }
+}
+
 /// Deletes those files of a page that nothing keeps, one by one, and counts them. At most as many calls.
 fn sweep_items<W: Swift>(
+    alloc: Global,
     store: &mut W,
     folder: &Bytes,
     kept: &Kept,
     items: &[NameItem],
-) -> Result<u64, PlanFault>
+) -> Result<u64, SweepFault>
     requires folder { IsContainerName folder.now }
     requires names { list_all is_key (map name_in items.now) ≡ true }
     requires few { length items.now ≤ 1000 }
@@ -77,12 +132,13 @@ fn sweep_items<W: Swift>(
     ensures asks { (bucket : List ℕ)
         → Asks (always (length (filter (goes kept.now) (map name_in items.now))))
         (W.history store.old) (W.history store.new) (MayDelete folder.now bucket (goes kept.now))
-        (TellsSwept folder.now bucket (goes kept.now) (map name_in items.now)) result }
+        (TellsSwept folder.now bucket (goes kept.now) (map name_in items.now)) (as_plan result) }
+    ensures spares { SparesThen folder.now (goes kept.now) (W.history store.old) (W.history store.new) }
 {
     let mut count = 0;
     for item in items {
         if kept.goes(item.name.as_slice()) {
-            delete_leftover(store, folder, &item.name)?;
+            sweep_item(alloc, store, folder, &item.name)?;
             count += 1;
         }
     }
@@ -96,7 +152,7 @@ fn sweep_page<W: Swift>(
     folder: &Bytes,
     kept: &Kept,
     marker: &Bytes,
-) -> Result<(u64, Option<Bytes>), PlanFault>
+) -> Result<(u64, Option<Bytes>), SweepFault>
     requires folder { IsContainerName folder.now }
     requires marker { IsMarker marker.now }
     ensures counted { IfOk result (λ told. (W.history store.old).called < budget
@@ -106,13 +162,14 @@ fn sweep_page<W: Swift>(
     ensures asks { (bucket : List ℕ) → Asks (always 1001) (W.history store.old)
         (W.history store.new)
         (MaySweep folder.now bucket (goes kept.now) marker.now)
-        (TellsPage folder.now bucket (goes kept.now) marker.now) result }
+        (TellsPage folder.now bucket (goes kept.now) marker.now) (as_plan result) }
     ensures pays { (bucket : List ℕ) → PaysPage folder.now bucket (goes kept.now) marker.now
-        (W.history store.old) (W.history store.new) result }
+        (W.history store.old) (W.history store.new) (as_plan result) }
+    ensures spares { SparesThen folder.now (goes kept.now) (W.history store.old) (W.history store.new) }
 {
     let page = file_page(alloc, store, folder.as_slice(), marker.as_slice())?;
     let next = next_marker(page.as_slice())?;
-    let count = sweep_items(store, folder, kept, page.as_slice())?;
+    let count = sweep_items(alloc, store, folder, kept, page.as_slice())?;
     Ok((count, next))
 }
 
@@ -125,7 +182,7 @@ pub(crate) fn sweep_files<W: Swift>(
     store: &mut W,
     folder: &Bytes,
     kept: &Kept,
-) -> Result<u64, PlanFault>
+) -> Result<u64, SweepFault>
     requires { IsContainerName folder.now }
     ensures counted { IfOk result (λ count. (W.history store.old).called + count ≤ (W.history store.new).called) }
     ensures fits { IfOk result (λ count. (W.history store.old).called + count < 2 ^ 64) }
@@ -134,7 +191,8 @@ pub(crate) fn sweep_files<W: Swift>(
         []))
         (W.history store.old) (W.history store.new)
         (MaySweep folder.now bucket (goes kept.now) []) (TellsAll folder.now (goes kept.now))
-        result }
+        (as_plan result) }
+    ensures spares { SparesThen folder.now (goes kept.now) (W.history store.old) (W.history store.new) }
 {
     let mut count = 0;
     let mut marker = Bytes::new(alloc);

@@ -1,6 +1,6 @@
 //! What a sweep remembers of a bucket, gathered from the files of a container page by page.
-ghost use Rattle.std.specs.Prelude.{◌≡◌, ◌<◌, ◌≤◌, ◌+◌, ◌*◌, ◌||◌, ℕ, List, [], ◌∷◌, length, map, true, is_some, IfOk, IfSome, OnOk, Err, Some};
-ghost use Rattle.std.specs.List.{list_all};
+ghost use Rattle.std.specs.Prelude.{◌≡◌, ◌<◌, ◌≤◌, ◌+◌, ◌*◌, ◌||◌, ℕ, List, [], ◌∷◌, length, map, true, is_some, IfErr, IfOk, IfSome, IsTrue, OnOk, Err, Some};
+ghost use Rattle.std.specs.List.{list_all, AllByRecursion};
 ghost use Rattle.std.specs.FinMap.{get};
 ghost use Rattle.s3_names.specs.Bucket.{is_bucket};
 ghost use Rattle.s3_names.specs.Key.{is_key};
@@ -8,21 +8,28 @@ ghost use Rattle.list_pages.specs.Listing.{name_in};
 ghost use Rattle.swift_calls.specs.History.{budget, present};
 ghost use Rattle.swift_calls.specs.Limits.{IsMarker};
 ghost use Rattle.swift_calls.specs.Step.{IsContainerName};
+ghost use Rattle.swift_marks.specs.Tag.{read_stamp};
 ghost use Rattle.upload_records.specs.Layout.{segments_name};
 ghost use Rattle.account_calls.specs.Calls.{always, by_account, Asks};
 ghost use Rattle.account_calls.specs.Listing.{TellsOf};
 ghost use Rattle.account_calls.specs.Told.{LeavesThroughout};
 ghost use Rattle.account_calls.specs.declared.fault.PlanFault.TheVariants as fault;
-ghost use Rattle.leftovers.specs.Gathering.{calls_a_file, folder_of, gather_calls, sub_manifests_in, AreKnown, HasItem, HasItems, HasListing, HasRecord, InBucket, IsKnown, PaysGathering, TellsAdded, TellsAll, TellsGathered, TellsInner, TellsListing, TellsNamed, TellsOpen};
+ghost use Rattle.leftovers.specs.Faults.{as_plan, NamesFile};
+ghost use Rattle.leftovers.specs.Gathering.{calls_a_file, folder_of, gather_calls, sub_manifests_in, AreKnown, HasInner, HasItem, HasItems, HasListing, HasRecord, InBucket, IsKnown, PaysGathering, TellsAdded, TellsAll, TellsGathered, TellsInner, TellsListing, TellsNamed, TellsOpen};
 ghost use Rattle.leftovers.specs.Leftovers.{is_named_in, is_open, is_sub_manifest_name};
+ghost use Rattle.leftovers.specs.Lists.{item_id, nothing_due, AreHeld, AreItemsHeld, HasName, HoldsAll, IsHeld, IsInnerHeld, IsItemHeld, IsObjectHeldByStamp, IsPageHeld, IsRecordHeld, SaysInner, SaysListing, SaysObject, SaysOfId, SaysOpen, Stays};
 ghost use Rattle.leftovers.specs.declared.gathering.Source.TheVariants.{Objects, Records};
 
+use crate::fault::{SweepFault, file_fault};
 use crate::files::file_page;
+use crate::kept::id_in;
+use crate::lists::is_whole_list;
 use crate::records::get_listed_record;
-use account_calls::{PlanFault, ask, interpret_listed_segments, next_marker};
+use account_calls::{PlanFault, ask_newest, interpret_listed_segments, next_marker};
 use gate_base::{Bytes, Copying, List, Memory, drop};
 use name_table::Table;
-use s3_names::is_key;
+use s3_machine::body_etag;
+use s3_names::{id_digits, is_key};
 use slo_manifest::Segment;
 use std::alloc::Global;
 use swift_calls::{NameItem, Swift, SwiftRequest};
@@ -60,6 +67,7 @@ fn is_open_upload<W: Swift>(
     ensures asks { (bucket : List ℕ) → is_bucket bucket ≡ true → folder.now ≡ folder_of Records bucket
         → Asks (always 1) (W.history store.old) (W.history store.new)
         (HasRecord bucket name.now) (TellsOf (TellsOpen bucket name.now)) result }
+    ensures says { SaysOpen folder.now name.now (W.history store.old) result }
     ensures leaves { LeavesThroughout (W.history store.old) (W.history store.new) }
 {
     let record = get_listed_record(alloc, store, folder, name)?;
@@ -91,6 +99,9 @@ fn add_record<W: Swift>(
         → Asks (always 1) (W.history store.old) (W.history store.new)
         (HasRecord bucket name.now)
         (TellsOf (TellsAdded Records bucket (name.now ∷ []) table.old table.new)) result }
+    ensures holds { IsTrue (W.history store.old).observable
+        → OnOk result (IsRecordHeld folder.now name.now (present (W.history store.old)) table.new) }
+    ensures stays { OnOk result (Stays table.old table.new) }
     ensures leaves { LeavesThroughout (W.history store.old) (W.history store.new) }
 {
     if !is_open_upload(alloc, store, folder, name)? {
@@ -101,8 +112,8 @@ fn add_record<W: Swift>(
 }
 
 /// The segments that an object lists, by GET of their list (Object Storage API v1, "Static large objects"); none, without a call,
-/// where its item in the listing says that it was put in one piece or is empty. At most one call.
-#[tactic(auto, using(account_calls::proofs::lemmas::Names::object_name, account_calls::proofs::lemmas::Names::container_name))]
+/// where its item in the listing says that it was put in one piece or is empty. A list that contradicts the item or itself is
+/// inconsistent, and so is an item of size 0 whose hash isn't the MD5 of no byte. At most one call.
 fn listing_of_object<W: Swift>(
     alloc: Global,
     store: &mut W,
@@ -113,16 +124,77 @@ fn listing_of_object<W: Swift>(
     requires name { is_key item.now.name ≡ true }
     ensures asks { Asks (always 1) (W.history store.old) (W.history store.new)
         (HasItem bucket.now bucket.now item.now) (TellsOf (TellsListing bucket.now item.now.name)) result }
+    ensures says { SaysObject bucket.now item.now (W.history store.old) result }
     ensures leaves { LeavesThroughout (W.history store.old) (W.history store.new) }
 {
-    if item.size == 0 {
-        return Ok(List::new(alloc));
-    }
     let stamp = Stamp::read(alloc, item.content_type.as_slice())?;
     match stamp.id {
         None => Ok(List::new(alloc)),
-        Some(_) => get_listing(store, bucket, &item.name),
+        Some(id) => listing_under(alloc, store, bucket, item, id),
     }
+}
+
+/// The segments that an object lists which is of the upload of an id.
+fn listing_under<W: Swift>(
+    alloc: Global,
+    store: &mut W,
+    bucket: &Bytes,
+    item: &NameItem,
+    id: u128,
+) -> Result<List<Segment>, PlanFault>
+    requires bucket { is_bucket bucket.now ≡ true }
+    requires name { is_key item.now.name ≡ true }
+    requires id { item_id item.now ≡ Some id }
+    ensures asks { Asks (always 1) (W.history store.old) (W.history store.new)
+        (HasItem bucket.now bucket.now item.now) (TellsOf (TellsListing bucket.now item.now.name)) result }
+    ensures says { SaysOfId bucket.now id item.now (W.history store.old) result }
+    ensures leaves { LeavesThroughout (W.history store.old) (W.history store.new) }
+{
+    if item.size == 0 {
+        return nothing_listed(alloc, item);
+    }
+    whole_listing(alloc, store, bucket, item, id)
+}
+
+/// What an item of size 0 lists: nothing, where its hash is the MD5 of no byte.
+fn nothing_listed(alloc: Global, item: &NameItem) -> Result<List<Segment>, PlanFault>
+    ensures { result ≡ nothing_due item.now }
+{
+    if item.hash.as_slice() == body_etag(b"").as_slice() {
+        return Ok(List::new(alloc));
+    }
+    Err(PlanFault::Inconsistent)
+}
+
+/// The list of an object under an id, which has to be whole.
+fn whole_listing<W: Swift>(
+    alloc: Global,
+    store: &mut W,
+    bucket: &Bytes,
+    item: &NameItem,
+    id: u128,
+) -> Result<List<Segment>, PlanFault>
+    requires bucket { is_bucket bucket.now ≡ true }
+    requires name { is_key item.now.name ≡ true }
+    requires id { item_id item.now ≡ Some id }
+    requires some { 0 < item.now.size }
+    ensures asks { Asks (always 1) (W.history store.old) (W.history store.new)
+        (HasItem bucket.now bucket.now item.now) (TellsOf (TellsListing bucket.now item.now.name)) result }
+    ensures says { SaysOfId bucket.now id item.now (W.history store.old) result }
+    ensures leaves { LeavesThroughout (W.history store.old) (W.history store.new) }
+{
+    let folder = segments_container(alloc, bucket.as_slice())?;
+    let list = get_listing(store, bucket, &item.name)?;
+    if !is_whole_list(
+        true,
+        folder.as_slice(),
+        &id_digits(id),
+        item.size,
+        list.as_slice(),
+    ) {
+        return Err(PlanFault::Inconsistent);
+    }
+    Ok(list)
 }
 
 /// The segments that a file lists which is known to list some. At most one call.
@@ -136,18 +208,21 @@ fn get_listing<W: Swift>(
     requires name { is_key name.now ≡ true }
     ensures asks { Asks (always 1) (W.history store.old) (W.history store.new)
         (HasListing container.now name.now) (TellsOf (TellsListing container.now name.now)) result }
+    ensures says { SaysListing container.now name.now (W.history store.old) result }
     ensures leaves { LeavesThroughout (W.history store.old) (W.history store.new) }
 {
     let container = container.copy()?;
     let name = name.copy()?;
-    let reply = ask(store, SwiftRequest::GetManifest { container, name })?;
+    let reply = ask_newest(store, SwiftRequest::GetManifest { container, name })?;
     interpret_listed_segments(reply)
 }
 
 /// Adds the names of the segments of a list.
 fn add_names(table: &mut Table<bool>, segments: &[Segment]) -> Result<(), Memory>
-    ensures { OnOk result ((text : List ℕ) → is_some (get table.new text)
+    ensures added { OnOk result ((text : List ℕ) → is_some (get table.new text)
         ≡ (is_some (get table.old text) || is_named_in text segments.now)) }
+    ensures held { OnOk result (AllByRecursion (HasName table.new) segments.now) }
+    ensures stays { OnOk result (Stays table.old table.new) }
 {
     for segment in segments {
         table.put(segment.name.as_slice(), true)?;
@@ -175,24 +250,31 @@ fn sub_manifests_in(segments: &[Segment]) -> usize
     count
 }
 
-/// The segments that a sub-manifest beside a bucket lists. At most one call.
+/// The segments that a sub-manifest beside a bucket lists, which an object lists: a whole list, under the id of its name. At most one
+/// call.
 fn listing_of_sub_manifest<W: Swift>(
     alloc: Global,
     store: &mut W,
     bucket: &Bytes,
-    name: &Bytes,
+    segment: &Segment,
 ) -> Result<List<Segment>, PlanFault>
     requires { is_bucket bucket.now ≡ true }
     ensures asks { Asks (always 1) (W.history store.old) (W.history store.new)
-        (HasListing (segments_name bucket.now) name.now)
-        (TellsOf (TellsListing (segments_name bucket.now) name.now)) result }
+        (HasInner bucket.now segment.now)
+        (TellsOf (TellsListing (segments_name bucket.now) segment.now.name)) result }
+    ensures says { SaysInner bucket.now segment.now (W.history store.old) result }
     ensures leaves { LeavesThroughout (W.history store.old) (W.history store.new) }
 {
-    if !is_key(name.as_slice()) {
+    if !is_key(segment.name.as_slice()) {
         return Err(PlanFault::Inconsistent);
     }
     let folder = segments_container(alloc, bucket.as_slice())?;
-    get_listing(store, &folder, name)
+    let list = get_listing(store, &folder, &segment.name)?;
+    let id = id_in(segment.name.as_slice());
+    if !is_whole_list(false, folder.as_slice(), id, segment.size, list.as_slice()) {
+        return Err(PlanFault::Inconsistent);
+    }
+    Ok(list)
 }
 
 /// Adds the names of the segments that a sub-manifest beside a bucket lists. At most one call.
@@ -200,16 +282,19 @@ fn add_sub_manifest<W: Swift>(
     alloc: Global,
     store: &mut W,
     bucket: &Bytes,
-    name: &Bytes,
+    segment: &Segment,
     table: &mut Table<bool>,
 ) -> Result<(), PlanFault>
     requires { is_bucket bucket.now ≡ true }
     ensures asks { Asks (always 1) (W.history store.old) (W.history store.new)
-        (HasListing (segments_name bucket.now) name.now)
-        (TellsOf (TellsInner bucket.now name.now table.old table.new)) result }
+        (HasInner bucket.now segment.now)
+        (TellsOf (TellsInner bucket.now segment.now.name table.old table.new)) result }
+    ensures holds { IsTrue (W.history store.old).observable
+        → OnOk result (IsInnerHeld bucket.now segment.now (present (W.history store.old)) table.new) }
+    ensures stays { OnOk result (Stays table.old table.new) }
     ensures leaves { LeavesThroughout (W.history store.old) (W.history store.new) }
 {
-    let segments = listing_of_sub_manifest(alloc, store, bucket, name)?;
+    let segments = listing_of_sub_manifest(alloc, store, bucket, segment)?;
     add_names(table, segments.as_slice())?;
     Ok(())
 }
@@ -227,13 +312,16 @@ fn add_segment<W: Swift>(
     ensures asks { Asks (always (sub_manifests_in (segment.now ∷ []))) (W.history store.old)
         (W.history store.new) (IsKnown bucket.now segment.now)
         (TellsOf (TellsNamed bucket.now (segment.now ∷ []) table.old table.new)) result }
+    ensures holds { IsTrue (W.history store.old).observable
+        → OnOk result (IsHeld bucket.now (present (W.history store.old)) table.new segment.now) }
+    ensures stays { OnOk result (Stays table.old table.new) }
     ensures leaves { LeavesThroughout (W.history store.old) (W.history store.new) }
 {
     table.put(segment.name.as_slice(), true)?;
     if !is_sub_manifest(segment.name.as_slice()) {
         return Ok(());
     }
-    add_sub_manifest(alloc, store, bucket, &segment.name, table)
+    add_sub_manifest(alloc, store, bucket, segment, table)
 }
 
 /// Adds the names of the segments that an object lists, by itself or through sub-manifests. A call for each sub-manifest.
@@ -248,6 +336,9 @@ fn add_listing<W: Swift>(
     ensures asks { Asks (always (sub_manifests_in segments.now)) (W.history store.old)
         (W.history store.new) (AreKnown bucket.now segments.now)
         (TellsOf (TellsNamed bucket.now segments.now table.old table.new)) result }
+    ensures holds { IsTrue (W.history store.old).observable
+        → OnOk result (AreHeld bucket.now (present (W.history store.old)) table.new segments.now) }
+    ensures stays { OnOk result (Stays table.old table.new) }
     ensures leaves { LeavesThroughout (W.history store.old) (W.history store.new) }
 {
     for segment in segments {
@@ -270,6 +361,10 @@ fn add_object<W: Swift>(
     ensures asks { Asks (always calls_a_file) (W.history store.old) (W.history store.new)
         (HasItem bucket.now bucket.now item.now)
         (TellsOf (TellsAdded Objects bucket.now (item.now.name ∷ []) table.old table.new)) result }
+    ensures holds { IsTrue (W.history store.old).observable
+        → OnOk result (IsObjectHeldByStamp (read_stamp item.now.content_type) bucket.now item.now
+        (present (W.history store.old)) table.new) }
+    ensures stays { OnOk result (Stays table.old table.new) }
     ensures leaves { LeavesThroughout (W.history store.old) (W.history store.new) }
 {
     let segments = listing_of_object(alloc, store, bucket, item)?;
@@ -281,7 +376,7 @@ fn add_object<W: Swift>(
 }
 
 /// Adds what the file of an item adds.
-fn add_item<W: Swift>(
+fn add_file<W: Swift>(
     alloc: Global,
     store: &mut W,
     files: &FilesOf<'_>,
@@ -293,13 +388,43 @@ fn add_item<W: Swift>(
     requires name { is_key item.now.name ≡ true }
     ensures asks { Asks (always calls_a_file) (W.history store.old) (W.history store.new)
         (HasItem files.now.folder.now files.now.bucket.now item.now)
-        (TellsOf (TellsAdded files.now.source files.now.bucket.now (item.now.name ∷ []) table.old
-        table.new)) result }
+        (TellsOf (TellsAdded files.now.source files.now.bucket.now (item.now.name ∷ []) table.old table.new)) result }
+    ensures holds { IsTrue (W.history store.old).observable
+        → OnOk result (IsItemHeld files.now.source files.now.folder.now files.now.bucket.now (present (W.history store.old)) table.new item.now) }
+    ensures stays { OnOk result (Stays table.old table.new) }
     ensures leaves { LeavesThroughout (W.history store.old) (W.history store.new) }
 {
     match files.source {
         Source::Records => add_record(alloc, store, files.folder, &item.name, table),
         Source::Objects => add_object(alloc, store, files.bucket, item, table),
+    }
+}
+
+/// The same, with a fault that names the file; that of a sub-manifest is named by the object that lists it.
+fn add_item<W: Swift>(
+    alloc: Global,
+    store: &mut W,
+    files: &FilesOf<'_>,
+    item: &NameItem,
+    table: &mut Table<bool>,
+) -> Result<(), SweepFault>
+    requires bucket { is_bucket files.now.bucket.now ≡ true }
+    requires folder { files.now.folder.now ≡ folder_of files.now.source files.now.bucket.now }
+    requires name { is_key item.now.name ≡ true }
+    ensures names { IfErr result (NamesFile files.now.folder.now item.now.name) }
+    ensures asks { Asks (always calls_a_file) (W.history store.old) (W.history store.new)
+        (HasItem files.now.folder.now files.now.bucket.now item.now)
+        (TellsOf (TellsAdded files.now.source files.now.bucket.now (item.now.name ∷ []) table.old
+        table.new)) (as_plan result) }
+    ensures holds { IsTrue (W.history store.old).observable
+        → OnOk result (IsItemHeld files.now.source files.now.folder.now files.now.bucket.now
+        (present (W.history store.old)) table.new item.now) }
+    ensures stays { OnOk result (Stays table.old table.new) }
+    ensures leaves { LeavesThroughout (W.history store.old) (W.history store.new) }
+{
+    match add_file(alloc, store, files, item, table) {
+        Ok(()) => Ok(()),
+        Err(fault) => Err(file_fault(alloc, fault, files.folder.as_slice(), item.name.as_slice())),
     }
 }
 
@@ -310,14 +435,16 @@ fn add_items<W: Swift>(
     files: &FilesOf<'_>,
     items: &[NameItem],
     table: &mut Table<bool>,
-) -> Result<(), PlanFault>
+) -> Result<(), SweepFault>
     requires bucket { is_bucket files.now.bucket.now ≡ true }
     requires folder { files.now.folder.now ≡ folder_of files.now.source files.now.bucket.now }
     requires names { list_all is_key (map name_in items.now) ≡ true }
     ensures asks { Asks (always (calls_a_file * length items.now)) (W.history store.old) (W.history store.new)
         (HasItems files.now.folder.now files.now.bucket.now items.now)
-        (TellsOf (TellsAdded files.now.source files.now.bucket.now (map name_in items.now) table.old
-        table.new)) result }
+        (TellsOf (TellsAdded files.now.source files.now.bucket.now (map name_in items.now) table.old table.new)) (as_plan result) }
+    ensures holds { IsTrue (W.history store.old).observable
+        → OnOk result (AreItemsHeld files.now.source files.now.folder.now files.now.bucket.now (present (W.history store.old)) table.new items.now) }
+    ensures stays { OnOk result (Stays table.old table.new) }
     ensures leaves { LeavesThroughout (W.history store.old) (W.history store.new) }
 {
     for item in items {
@@ -333,7 +460,7 @@ fn gather_page<W: Swift>(
     files: &FilesOf<'_>,
     marker: &Bytes,
     table: &mut Table<bool>,
-) -> Result<Option<Bytes>, PlanFault>
+) -> Result<Option<Bytes>, SweepFault>
     requires bucket { is_bucket files.now.bucket.now ≡ true }
     requires folder { files.now.folder.now ≡ folder_of files.now.source files.now.bucket.now }
     requires marker { IsMarker marker.now }
@@ -343,10 +470,14 @@ fn gather_page<W: Swift>(
     ensures asks { Asks (always 11001) (W.history store.old) (W.history store.new)
         (InBucket files.now.bucket.now)
         (TellsOf (TellsGathered files.now.source files.now.folder.now files.now.bucket.now
-        marker.now table.old table.new)) result }
+        marker.now table.old table.new)) (as_plan result) }
     ensures pays { PaysGathering files.now.folder.now files.now.bucket.now marker.now
         (W.history store.old)
-        (W.history store.new) result }
+        (W.history store.new) (as_plan result) }
+    ensures holds { IsTrue (W.history store.old).observable
+        → IfOk result (λ next. IsPageHeld files.now.source files.now.folder.now files.now.bucket.now marker.now
+        (present (W.history store.old)) table.new next) }
+    ensures stays { OnOk result (Stays table.old table.new) }
     ensures leaves { LeavesThroughout (W.history store.old) (W.history store.new) }
 {
     let page = file_page(alloc, store, files.folder.as_slice(), marker.as_slice())?;
@@ -366,12 +497,13 @@ pub fn gather<W: Swift>(
     bucket: &Bytes,
     folder: &Bytes,
     source: Source,
-) -> Result<Table<bool>, PlanFault>
+) -> Result<Table<bool>, SweepFault>
     requires bucket { is_bucket bucket.now ≡ true }
     requires folder { folder.now ≡ folder_of source bucket.now }
     ensures asks { Asks (by_account (gather_calls (present (W.history store.old)) folder.now))
         (W.history store.old) (W.history store.new) (InBucket bucket.now)
-        (TellsOf (TellsAll source folder.now bucket.now)) result }
+        (TellsOf (TellsAll source folder.now bucket.now)) (as_plan result) }
+    ensures holds { HoldsAll source folder.now bucket.now (W.history store.old) result }
     ensures leaves { LeavesThroughout (W.history store.old) (W.history store.new) }
 {
     let files = FilesOf {

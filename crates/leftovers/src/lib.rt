@@ -1,16 +1,20 @@
 //! What is left over beside a bucket and what is kept there: its definitions, the laws that it may go, and its removal.
 #![tactic(auto)]
 
+mod asking;
+mod fault;
 mod files;
 mod gathering;
 mod kept;
 mod laws;
+mod lists;
 mod records;
 mod segments;
 mod sides;
 mod stray;
 mod used;
 
+pub use fault::{SweepFault, file_fault};
 pub use files::file_page;
 pub use gathering::{Source, gather};
 pub use kept::Kept;

@@ -12,9 +12,10 @@ ghost use Rattle.account_calls.specs.Listing.{TellsOf};
 ghost use Rattle.account_calls.specs.Told.{LeavesThroughout};
 ghost use Rattle.account_calls.specs.declared.fault.PlanFault.TheVariants as fault;
 ghost use Rattle.leftovers.specs.Gathering.{HasRecord};
+ghost use Rattle.leftovers.specs.Lists.{SaysRecord};
 ghost use Rattle.leftovers.specs.Records.{listed_record_by, listed_record_due, TellsRecord};
 
-use account_calls::{PlanFault, ask};
+use account_calls::{PlanFault, ask_newest};
 use gate_base::{Bytes, Copying};
 use std::alloc::Global;
 use swift_calls::{Swift, SwiftReply, SwiftRequest};
@@ -38,6 +39,7 @@ pub fn get_listed_record<W: Swift>(
     ensures asks { (bucket : List ℕ) → is_bucket bucket ≡ true → folder.now ≡ uploads_name bucket
         → Asks (always 1) (W.history store.old) (W.history store.new)
         (HasRecord bucket name.now) (TellsOf (TellsRecord bucket name.now)) result }
+    ensures says { SaysRecord folder.now name.now (W.history store.old) result }
     ensures leaves { LeavesThroughout (W.history store.old) (W.history store.new) }
 {
     let container = folder.copy()?;
@@ -47,7 +49,7 @@ pub fn get_listed_record<W: Swift>(
         name,
         range: None,
     };
-    let reply = ask(store, request)?;
+    let reply = ask_newest(store, request)?;
     listed_record_in_reply(alloc, &reply)
 }
 

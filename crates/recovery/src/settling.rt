@@ -12,9 +12,9 @@ ghost use Rattle.recovery.specs.Rolls.{FinishesSealed, HasGateway, HasObject, Ha
 
 use crate::sealed::{rolled_forward_record_request, rolled_forward_record_text};
 use account_calls::{
-    PlanFault, Settled, ask, etag_of_put, interpret_container_put, interpret_file_delete,
-    interpret_put_with_etag, interpret_sealed_get, object_request, sealed_segments,
-    sub_manifest_count, sub_manifest_request,
+    PlanFault, Settled, ask, ask_newest, etag_of_put, interpret_container_put,
+    interpret_file_delete, interpret_put_with_etag, interpret_sealed_get, object_request,
+    sealed_segments, sub_manifest_count, sub_manifest_request,
 };
 use s3_machine::body_etag;
 use slo_manifest::Segment;
@@ -84,7 +84,7 @@ fn get_sealed<W: Swift>(alloc: Global, store: &mut W) -> Result<Option<Sealed>, 
 {
     let container = gateway_container(alloc)?;
     let name = sealed_name(alloc)?;
-    let reply = ask(
+    let reply = ask_newest(
         store,
         SwiftRequest::GetObject {
             container,

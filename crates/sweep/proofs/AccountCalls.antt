@@ -115,34 +115,34 @@ module _ (tree : SwiftAccount) where
   abbrev to_records : List ℕ → ℕ
   to_records = charge records charged uploads
 
-  beside_missing : (n folder : List ℕ) → n ≡ folder → others n ≡ own n → 1 + (pages (len (files tree folder)) + len (files tree folder) + 1) ≤ 4 + 2 * others n
+  beside_missing : (n folder : List ℕ) → n ≡ folder → others n ≡ own n → 1 + (pages (len (files tree folder)) + len (files tree folder) + 1) ≤ 5 + 4 * others n
   beside_missing n folder named all = let same : own n ≡ len (files tree folder) = ap own named in omega (arith, same, all)
 
   segments_there : (n b : List ℕ) → is_bucket b ≡ true → n ≡ segments_name b → side_of n ≡ Some (beside_segments b) → is_some (get tree b) ≡ true
-      → 1 + calls_beside true tree Segments b ≤ 4 + 2 * others n + 12 * to_objects n + 12 * to_records n
+      → 1 + calls_beside true tree Segments b ≤ 5 + 4 * others n + 12 * to_objects n + 12 * to_records n
   segments_there n b is named side there =
       let so : charged n ≡ true = ap charged_by side ∙ there in
       let at : bucket n ≡ b = ap (bucket_by n) side in
       let objects_are : to_objects n ≡ own b = ap (λ t. cond t (objects (bucket n)) 0) so ∙ ap objects at ∙ objects_of b is in
       let records_are : to_records n ≡ own (uploads_name b) = ap (λ t. cond t (records (uploads n)) 0) so ∙ ap (λ c. records (uploads_name c)) at ∙ records_of b is there in
       let segments_are : others n ≡ own (segments_name b) = ap (of_others (own n)) side ∙ ap own named in
-      let calls : calls_beside true tree Segments b ≡ (own (uploads_name b) / 1000 + 1 + 11 * own (uploads_name b)) + (own b / 1000 + 1 + 11 * own b) + (own (segments_name b) / 1000 + 1 + own (segments_name b)) = refl in
+      let calls : calls_beside true tree Segments b ≡ (own (uploads_name b) / 1000 + 1 + 11 * own (uploads_name b)) + (own b / 1000 + 1 + 11 * own b) + (own (segments_name b) / 1000 + 1 + 2 * own (segments_name b)) + (own (segments_name b) / 1000 + 1 + own (segments_name b)) = refl in
       omega (arith, objects_are, records_are, segments_are, calls)
 
-  most : (n : List ℕ) → name_calls tree n ≤ 4 + 2 * others n + 12 * to_objects n + 12 * to_records n
+  most : (n : List ℕ) → name_calls tree n ≤ 5 + 4 * others n + 12 * to_objects n + 12 * to_records n
   most n = by (side_of n) refl
     where
-      records_by : (b : List ℕ) → n ≡ uploads_name b → side_of n ≡ Some (beside_records b) → (t : Bool) → is_some (get tree b) ≡ t → 1 + calls_beside t tree Records b ≤ 4 + 2 * others n + 12 * to_objects n + 12 * to_records n
+      records_by : (b : List ℕ) → n ≡ uploads_name b → side_of n ≡ Some (beside_records b) → (t : Bool) → is_some (get tree b) ≡ t → 1 + calls_beside t tree Records b ≤ 5 + 4 * others n + 12 * to_objects n + 12 * to_records n
       records_by b named side true there = omega arith
       records_by b named side false missing =
           let few = beside_missing n (uploads_name b) named (ap (of_others (own n)) side ∙ ap (λ t. cond t 0 (own n)) missing) in
           omega (arith, few)
 
-      segments_by : (b : List ℕ) → is_bucket b ≡ true → n ≡ segments_name b → side_of n ≡ Some (beside_segments b) → (t : Bool) → is_some (get tree b) ≡ t → 1 + calls_beside t tree Segments b ≤ 4 + 2 * others n + 12 * to_objects n + 12 * to_records n
+      segments_by : (b : List ℕ) → is_bucket b ≡ true → n ≡ segments_name b → side_of n ≡ Some (beside_segments b) → (t : Bool) → is_some (get tree b) ≡ t → 1 + calls_beside t tree Segments b ≤ 5 + 4 * others n + 12 * to_objects n + 12 * to_records n
       segments_by b is named side true there = segments_there n b is named side there
       segments_by b is named side false missing = let few = beside_missing n (segments_name b) named (ap (of_others (own n)) side) in omega (arith, few)
 
-      by : (s : Option Side) → side_of n ≡ s → calls_by_side tree s ≤ 4 + 2 * others n + 12 * to_objects n + 12 * to_records n
+      by : (s : Option Side) → side_of n ≡ s → calls_by_side tree s ≤ 5 + 4 * others n + 12 * to_objects n + 12 * to_records n
       by None e = omega arith
       by (Some (beside_records b)) e = records_by b (records_side n b e).1 e (is_some (get tree b)) refl
       by (Some (beside_segments b)) e = let told = segments_side n b e in segments_by b told.0 told.1 e (is_some (get tree b)) refl
@@ -155,7 +155,7 @@ module _ (tree : SwiftAccount) where
   abbrev segments_by_uploads : List ℕ → List ℕ
   segments_by_uploads m = segments_name (bucket_by m (side_of m))
 
-  pub names_within : IsConsistent tree → names_calls tree (keys tree) ≤ 4 * len tree + 12 * files_in tree
+  pub names_within : IsConsistent tree → names_calls tree (keys tree) ≤ 5 * len tree + 12 * files_in tree
   names_within sound =
       let all = sums (name_calls tree) others to_objects to_records most (keys tree) in
       let by_objects = charges objects charged bucket segments_name (λ n so. (charged_is n so).named) (keys tree) (keys tree) (keys_ascend tree) (λ n here so. there_in (bucket n) (charged_is n so).there) in
@@ -169,5 +169,5 @@ module _ (tree : SwiftAccount) where
   pub account_within : IsConsistent tree → pages (len tree) + names_calls tree (keys tree) ≤ account_calls tree
   account_within sound = within_by (len tree) (names_calls tree (keys tree)) (files_in tree) (names_within sound)
     where
-      within_by : (c calls n : ℕ) → calls ≤ 4 * c + 12 * n → pages c + calls ≤ 4 + 16 * (c + n)
+      within_by : (c calls n : ℕ) → calls ≤ 5 * c + 12 * n → pages c + calls ≤ 4 + 16 * (c + n)
       within_by c calls n few = omega (arith, few)

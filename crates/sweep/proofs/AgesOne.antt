@@ -1,5 +1,5 @@
 -- The record of one name goes, or is put anew with its moment.
-use Rattle.std.specs.Prelude.{◌≡◌, ◌≤◌, ◌+◌, ◌||◌, ◌-◌, ℕ, Bool, true, false, cond, bytes_eq, is_some, List, [], ◌∷◌, map, length, Option, None, Some, Ok, Err}
+use Rattle.std.specs.Prelude.{◌≡◌, ◌≤◌, ◌+◌, ◌||◌, ◌-◌, ℕ, Bool, true, false, cond, bytes_eq, is_some, List, [], ◌∷◌, map, length, Option, None, Some, Result, Ok, Err}
 use Rattle.std.specs.Option.{option_and_then, option_map}
 use Rattle.std.specs.FinMap.{contains_key, get, insert, len, len-insert, len-remove, remove}
 use Rattle.std.proofs.Common.{refl, sym, ap, subst, ◌∙◌, inl, arith, true≢false}
@@ -34,7 +34,12 @@ use Rattle.account_calls.proofs.lemmas.Etags.{etag_agrees}
 use Rattle.account_calls.proofs.lemmas.Names.{object_name}
 use Rattle.account_calls.proofs.lemmas.One.{LeavesSettled}
 use Rattle.account_calls.proofs.lemmas.Quiet.{IsQuietOf, QuietEffect}
-use Rattle.sweep.specs.Aging.{Ages, HasFile, HasRecord, TellsGone, aged, dated, is_in, is_old, most_record_text, old_among, record_beside, record_type}
+use Rattle.swift_calls.specs.History.{History, Calls, present}
+use Rattle.swift_calls.specs.declared.calls.SwiftReply.{SwiftReply}
+use Rattle.account_calls.specs.declared.fault.PlanFault.{PlanFault}
+use Rattle.account_calls.specs.Puts.{Ensures, StandsIn}
+use Rattle.account_calls.proofs.lemmas.Puts.{file_stands}
+use Rattle.sweep.specs.Aging.{Ages, HasFile, HasRecord, StandsDated, TellsGone, aged, dated, is_in, is_old, most_record_text, old_among, record_beside, record_type}
 use Rattle.sweep.specs.Forgetting.{forget_kept, is_undated, without_kept}
 use Rattle.sweep.specs.Laws.{HasDone}
 use Rattle.sweep.proofs.ForgetOne.{ForgetEffect, IsForgetOf}
@@ -275,3 +280,10 @@ pub puts_dated : {folder name text : List ℕ} {request : SwiftRequest} → requ
 puts_dated {name = name} {text = text} same told undated reads short before bucket is of new =
     subst (λ r. IsQuietOf (HasRecord bucket name told) r (stored_due (body_etag text)) (TellsGone before bucket name)) (sym (same ∙ ap (λ n. PutObject n name record_type [] text) of))
     (dates_record before bucket name told text is undated reads short new)
+
+-- over every observable store its file stands, where it was answered so
+pub stands_dated : {a b : History} {request : SwiftRequest} {reply : SwiftReply} {folder name : List ℕ} {told : Record} {text : List ℕ} (etag : List ℕ)
+    → request ≡ PutObject folder name record_type [] text → read_record text ≡ Some (dated told) → Calls a b request (Ok reply)
+    → (result : Result (Unit {0}) PlanFault) → result ≡ stored_due etag reply → Ensures b (StandsDated folder name told) result
+stands_dated {b = b} {text = text} etag same reads calls (Ok done) is = record { so = λ observable. record { text = text; reads = reads; stands = subst (StandsIn (present b)) same (file_stands etag calls (sym is) observable) } }
+stands_dated etag same reads calls (Err fault) is = record { so = λ observable. tt }

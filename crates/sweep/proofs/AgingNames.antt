@@ -25,7 +25,7 @@ use Rattle.account_calls.specs.declared.fault.PlanFault.{PlanFault}
 use Rattle.account_calls.specs.Calls.{Met}
 use Rattle.account_calls.specs.Listing.{HasNames}
 use Rattle.account_calls.proofs.lemmas.Markers.{IsKey, keys_are}
-use Rattle.sweep.specs.declared.account.SweepFault.{SweepFault}
+use Rattle.leftovers.specs.declared.fault.SweepFault.{SweepFault}
 use Rattle.sweep.specs.declared.forget.Aged.{Aged}
 use Rattle.sweep.specs.Aging.{Ages, AgesAll, AreDistinct, Forgetting, TellsAllAged, TellsBeside, aged, aging_calls, forget_calls, ids_beside, is_beside_one, is_in, is_old, names_forget_calls, old_beside, old_of, record_beside, undated_beside, undated_of}
 use Rattle.sweep.specs.Containers.{HasContainer}

@@ -97,7 +97,7 @@ module _ (f : List ℕ → ℕ) where
     charges (x ∷ names) all up within = charges_by x names all up.0 within (λ left within. charges names left up.1 within) (charged x) refl
 
 -- what is at most a sum for each name is so for all
-pub sums : (c f a b : List ℕ → ℕ) → ((n : List ℕ) → c n ≤ 4 + 2 * f n + 12 * a n + 12 * b n) → (names : List (List ℕ)) → sum_by c names ≤ 4 * length names + 2 * sum_by f names + 12 * sum_by a names + 12 * sum_by b names
+pub sums : (c f a b : List ℕ → ℕ) → ((n : List ℕ) → c n ≤ 5 + 4 * f n + 12 * a n + 12 * b n) → (names : List (List ℕ)) → sum_by c names ≤ 5 * length names + 4 * sum_by f names + 12 * sum_by a names + 12 * sum_by b names
 sums c f a b most [] = omega arith
 sums c f a b most (n ∷ names) =
     let rest = sums c f a b most names in

@@ -13,10 +13,10 @@ pub mod Buckets
 pub mod Charges
 pub mod DatedTexts
 pub mod Fates
-pub mod FaultNames
 pub mod ForgetCalls
 pub mod ForgetOne
 pub mod ForgetSum
+pub mod Heeded
 pub mod KeptRecords
 pub mod NameSums
 pub mod NameTables
@@ -28,6 +28,7 @@ pub mod PlanFaults
 pub mod SealedRead
 pub mod SideNames
 pub mod Spared
+pub mod SparedSides
 pub mod StateOlds
 pub mod Steps
 pub mod SurveyCalls

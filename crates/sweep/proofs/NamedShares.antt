@@ -1,7 +1,8 @@
 -- A container is surveyed by its name, and what it has is added to what others have.
 use Rattle.std.specs.Prelude.{◌≡◌, ◌≤◌, ◌<◌, ◌+◌, ℕ, true, false, is_some, List, [], length, take, get_or, sum_by, Option, None, Some, Result, Ok, Err}
 use Rattle.std.specs.List.{AllByRecursion}
-use Rattle.std.proofs.Common.{refl, sym, ap, subst, ◌∙◌, inl, inr, arith}
+use Rattle.std.specs.Result.{IsErrAnd}
+use Rattle.std.proofs.Common.{refl, sym, ap, subst, ◌∙◌, arith}
 use Rattle.std.proofs.lemmas.List.{take_all}
 use Rattle.std.proofs.lemmas.List.Sums.{sum_by-take-le, sum_by_more}
 use Rattle.s3_names.specs.Bucket.{is_bucket}
@@ -9,17 +10,14 @@ use Rattle.swift_calls.specs.Account.{SwiftAccount}
 use Rattle.swift_calls.specs.History.{History, present}
 use Rattle.upload_texts.specs.declared.sealed.Sealed.{Sealed}
 use Rattle.account_calls.specs.declared.fault.PlanFault.{PlanFault}
-use Rattle.account_calls.specs.declared.fault.PlanFault.TheVariants as plan
 use Rattle.account_calls.specs.Calls.{Bound, by_account, Any, Asks}
 use Rattle.account_calls.specs.Listing.{TellsOf}
 use Rattle.account_calls.proofs.lemmas.Ask.{asks_fault, asks_told}
 use Rattle.account_calls.proofs.lemmas.Markers.{IsKey, keys_are}
-use Rattle.sweep.specs.declared.account.SweepFault.{SweepFault}
 use Rattle.leftovers.specs.declared.sides.Kind.TheVariants.{Segments}
 use Rattle.sweep.specs.declared.counting.Surveyed.{Surveyed}
 use Rattle.leftovers.specs.Sides.{bucket_beside}
-use Rattle.sweep.specs.Surveying.{calls_by, calls_of_side, plus, share_by, share_calls, share_of, share_of_side, shares_calls, shares_of, stray_calls, HasName, HasAllNames, IsFaultAt, TellsBucketShare, TellsShare, TellsShares, TellsStrayShare, TellsSum, bucket_calls}
-use Rattle.sweep.specs.Swept.{plan_of}
+use Rattle.sweep.specs.Surveying.{calls_by, calls_of_side, plus, share_by, share_calls, share_of, share_of_side, shares_calls, shares_of, stray_calls, HasName, HasAllNames, TellsBucketShare, TellsShare, TellsShares, TellsStrayShare, TellsSum, bucket_calls}
 use Rattle.leftovers.proofs.lemmas.Lists.{at_place, take_zero}
 use Rattle.leftovers.proofs.lemmas.Readings.{asks_idle}
 use Rattle.sweep.proofs.Steps.{asks_wider, reads_then_fault, reads_then_told}
@@ -61,15 +59,6 @@ module _ (name : List ℕ) (total : Surveyed) {a b : History} {sealed : Option S
 
 -- ---- one after the other
 
--- the fault of a plan is told as one that names where it was
-pub fault_at : {T : Type 0} {most : Bound} {a b : History} {given : SwiftAccount → Type 0} {P : SwiftAccount → SwiftAccount → T → Type 0} (container name : List ℕ) (f : PlanFault) (e : SweepFault)
-    → IsFaultAt container name f e → Asks most a b given P (Err f) → Asks most a b given P (Err (plan_of e))
-fault_at {most = most} {a = a} {b = b} {given = given} {P = P} container name plan.Failed e is asks = subst (λ e. Asks most a b given P (Err (plan_of e))) (sym is) asks
-fault_at {most = most} {a = a} {b = b} {given = given} {P = P} container name plan.Memory e is asks = subst (λ e. Asks most a b given P (Err (plan_of e))) (sym is) asks
-fault_at {most = most} {a = a} {b = b} {given = given} {P = P} container name plan.Inconsistent e (inl is) asks =
-    subst (λ e. Asks most a b given P (Err (plan_of e))) (sym is) (record { grows = asks.grows; cause = asks.cause; effect = λ met. absurd (asks.effect met); settled = asks.settled })
-fault_at {most = most} {a = a} {b = b} {given = given} {P = P} container name plan.Inconsistent e (inr is) asks = subst (λ e. Asks most a b given P (Err (plan_of e))) (sym is) asks
-
 names_zero : (names : List (List ℕ)) → take 0 names ≡ []
 names_zero names = take_zero names
 
@@ -109,11 +98,11 @@ module _ (sealed : Option Sealed) (names : List (List ℕ)) where
         reads_then_told sharing (λ tree sound has p. here tree has) (λ met p same. omega (arith, ap (λ tree. share_calls tree name) same, more (share_calls (present a)))) sum then
         (λ tree sound has p q. q ∙ ap (λ t. plus t (share_of tree name)) p ∙ sum_is tree)
 
-    pub sharing_fault : {c : History} {f : PlanFault} → Asks (by_account (share_calls (present b) name)) b c (HasName sealed name) (TellsOf (TellsSum total name)) (Err f) → (container object : List ℕ) (e : SweepFault) → IsFaultAt container object f e
-        → Asks (by_account (shares_calls (present a) names)) a c (HasAllNames sealed names) (TellsOf (TellsShares names)) (Err (plan_of e))
-    sharing_fault {f = f} then container object e named =
-        fault_at container object f e named (reads_then_fault sharing (λ tree sound has p. here tree has)
-        (λ met p same. omega (arith, ap (λ tree. share_calls tree name) same, more (share_calls (present a)), fewer)) then (Err f) refl)
+    pub sharing_fault : {c : History} {f : PlanFault} → Asks (by_account (share_calls (present b) name)) b c (HasName sealed name) (TellsOf (TellsSum total name)) (Err f) → (result : Result Surveyed PlanFault) → IsErrAnd result (λ e. e ≡ f)
+        → Asks (by_account (shares_calls (present a) names)) a c (HasAllNames sealed names) (TellsOf (TellsShares names)) result
+    sharing_fault then result gives =
+        reads_then_fault sharing (λ tree sound has p. here tree has)
+        (λ met p same. omega (arith, ap (λ tree. share_calls tree name) same, more (share_calls (present a)), fewer)) then result gives
       where
         fewer : sum_by (share_calls (present a)) (take (i + 1) names) ≤ sum_by (share_calls (present a)) names
         fewer = sum_by-take-le (share_calls (present a)) names (i + 1)

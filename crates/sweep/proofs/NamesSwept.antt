@@ -21,16 +21,18 @@ use Rattle.account_calls.specs.Listing.{HasNames}
 use Rattle.account_calls.proofs.lemmas.Ascending.{Ascends, keys_ascend}
 use Rattle.account_calls.proofs.lemmas.Quiet.{asks_untold}
 use Rattle.sweep.specs.declared.account.Swept.{Swept}
-use Rattle.sweep.specs.declared.account.SweepFault.{SweepFault}
-use Rattle.sweep.specs.Containers.{name_calls, HasListed, SweepsName}
+use Rattle.leftovers.specs.declared.fault.SweepFault.{SweepFault}
+use Rattle.sweep.specs.Containers.{name_calls, HasListed, SparesOthers, SweepsName}
 use Rattle.leftovers.specs.Leftovers.{Leftovers, left_by, left_in, left_there, leftovers, nothing_left}
 use Rattle.leftovers.specs.Sides.{side_of}
-use Rattle.sweep.specs.Swept.{as_plan, plan_of, removed, TellsSwept}
+use Rattle.sweep.specs.Swept.{removed, TellsSwept}
+use Rattle.leftovers.specs.Faults.{plan_of, as_plan}
 use Rattle.sweep.specs.Walk.{IsTableOf, added, count_removed, names_calls, CountsNoRecords, Spares, SweepsNames, Tallies}
 use Rattle.sweep.proofs.Beside.{asks_made, asks_none, swept_of}
-use Rattle.sweep.proofs.FaultNames.{swept_err}
+use Rattle.leftovers.proofs.lemmas.Faults.{plan_err}
 use Rattle.leftovers.proofs.lemmas.Joined.{asks_then_by}
 use Rattle.sweep.proofs.SideNames.{bytes_apart}
+use Rattle.sweep.proofs.SparedSides.{others_same, others_then}
 use Rattle.sweep.proofs.Spared.{bucket_spared, calls_same, left_same, name_spares, spares_none, spares_then}
 
 -- ---- names in a list
@@ -186,6 +188,7 @@ pub record Sweeping (a b : History) (names : List (List ℕ)) (i : ℕ) (swept :
   pub paid : a.called + count_removed swept ≤ b.called
   pub fits : count_removed swept < 2 ^ 64
   pub leaves : CountsNoRecords swept
+  pub spared : SparesOthers a b
 
 pub sweeping_none : (a : History) (names : List (List ℕ)) → Sweeping a a names 0 (swept_of 0 0 0)
 sweeping_none a names = record {
@@ -193,6 +196,7 @@ sweeping_none a names = record {
   paid = omega arith;
   fits = omega arith;
   leaves = record { migrated = refl; forgotten = refl };
+  spared = others_same a;
 }
 
 module _ {a b : History} (names : List (List ℕ)) (i : ℕ) {swept : Swept} (sweeping : Sweeping a b names i swept) where
@@ -221,8 +225,8 @@ module _ {a b : History} (names : List (List ℕ)) (i : ℕ) {swept : Swept} (sw
         one_within (names_calls (present a) (take i names)) (name_calls (present a) name) (names_calls (present a) (take i names ++ name ∷ [])) (name_calls (present b) name) (sum_by_push (name_calls (present a)) (take i names) name) same)
 
     -- one more was
-    pub sweeping_more : {c : History} (one : Swept) → Asks (by_account (name_calls (present b) name)) b c (HasListed table name) (SweepsName name) (Ok one) → Tallies b.called c.called one → Sweeping a c names (i + 1) (added swept one)
-    sweeping_more {c = c} one then tallied = record {
+    pub sweeping_more : {c : History} (one : Swept) → Asks (by_account (name_calls (present b) name)) b c (HasListed table name) (SweepsName name) (Ok one) → Tallies b.called c.called one → SparesOthers b c → Sweeping a c names (i + 1) (added swept one)
+    sweeping_more {c = c} one then tallied spares = record {
       asks = subst (λ done. Asks (by_account (names_calls (present a) done)) a c (HasNames names) (NamesSwept done) (Ok (added swept one))) (sym more) (asks_made (added swept one) (λ old new sound has told. told) (next (Ok one) then));
       paid = let before = sweeping.paid in let paid = tallied.paid in omega (arith, before, paid);
       fits = elim (tallied.fits) [
@@ -230,6 +234,7 @@ module _ {a b : History} (names : List (List ℕ)) (i : ℕ) {swept : Swept} (sw
         | inr fits ↦ let before = sweeping.paid in omega (arith, before, fits)
       ];
       leaves = record { migrated = sweeping.leaves.migrated; forgotten = sweeping.leaves.forgotten };
+      spared = others_then sweeping.asks.grows.on sweeping.spared spares;
     }
 
     -- or it wasn't
@@ -237,7 +242,7 @@ module _ {a b : History} (names : List (List ℕ)) (i : ℕ) {swept : Swept} (sw
         → (result : Result Swept SweepFault) → IsErrAnd result (λ e. e ≡ f) → Asks (by_account (names_calls (present a) names)) a c (HasNames names) SweepsNames (as_plan result)
     sweeping_fault {c = c} f then result gives =
         let few : names_calls (present a) (take i names ++ name ∷ []) ≤ names_calls (present a) names = subst (λ done. names_calls (present a) done ≤ names_calls (present a) names) more (sum_by-take-le (name_calls (present a)) names (i + 1)) in
-        subst (λ r. Asks (by_account (names_calls (present a) names)) a c (HasNames names) SweepsNames (as_plan r)) (sym (swept_err result f gives)) (asks_untold (plan_of f) (asks_more few (next (Err (plan_of f)) then)))
+        subst (Asks (by_account (names_calls (present a) names)) a c (HasNames names) SweepsNames) (sym (plan_err result f gives)) (asks_untold (plan_of f) (asks_more few (next (Err (plan_of f)) then)))
 
   pub sweeping_fits : {p q : ℕ} (one : Swept) → b.called ≡ p → Tallies p q one → count_removed swept + count_removed one < 2 ^ 64
   sweeping_fits one at tallied = elim (tallied.fits) [

@@ -18,6 +18,7 @@ use Rattle.sweep.specs.Containers.{calls_beside, calls_by_side, name_calls, IsSp
 use Rattle.leftovers.specs.Gathering.{calls_a_file, gather_calls}
 use Rattle.leftovers.specs.Leftovers.{all_if, id_in, is_listed_in, is_open, is_orphan, is_sealed_in, is_used, left_by, left_in, left_there, nothing_left, one_if}
 use Rattle.leftovers.specs.Sides.{Side, beside_records, beside_segments, side_of}
+use Rattle.leftovers.specs.Asking.{asking_calls}
 use Rattle.leftovers.specs.Sweeping.{file_calls}
 use Rattle.sweep.specs.Walk.{Spares}
 use Rattle.leftovers.proofs.lemmas.Lists.{filter_alike}
@@ -98,6 +99,9 @@ module _ {old new : SwiftAccount} (spares : Spares old new) where
     file_same : (folder : List ℕ) → get new folder ≡ get old folder → file_calls new folder ≡ file_calls old folder
     file_same folder e = ap (λ o. pages (len (files_of o)) + len (files_of o)) e
 
+    asking_same : (folder : List ℕ) → get new folder ≡ get old folder → asking_calls new folder ≡ asking_calls old folder
+    asking_same folder e = ap (λ o. pages (len (files_of o)) + 2 * len (files_of o)) e
+
     records_calls : (b : List ℕ) → name ≡ uploads_name b → (t : Bool) → calls_beside t new Records b ≡ calls_beside t old Records b
     records_calls b named true = refl
     records_calls b named false = ap (λ n. n + 1) (file_same (uploads_name b) (subst (λ n. get new n ≡ get old n) named same))
@@ -106,8 +110,9 @@ module _ {old new : SwiftAccount} (spares : Spares old new) where
     segments_calls_same b is named true there =
         let records = gather_same (uploads_name b) (uploads_spared b is there) in
         let objects = gather_same b (bucket_spared b is) in
+        let asked = asking_same (segments_name b) (segments_same b is named) in
         let segments = file_same (segments_name b) (segments_same b is named) in
-        λ i. records i + objects i + segments i
+        λ i. records i + objects i + asked i + segments i
     segments_calls_same b is named false missing = ap (λ n. n + 1) (file_same (segments_name b) (segments_same b is named))
 
     calls_by_same : (s : Option Side) → side_of name ≡ s → calls_by_side new s ≡ calls_by_side old s

@@ -10,10 +10,11 @@ use Rattle.account_calls.specs.declared.fault.PlanFault.{PlanFault}
 use Rattle.account_calls.specs.Answers.{pages}
 use Rattle.account_calls.specs.Calls.{always, by_account, Any, Asks}
 use Rattle.account_calls.specs.Listing.{TellsNames, TellsOf}
-use Rattle.sweep.specs.declared.account.SweepFault.{SweepFault}
+use Rattle.leftovers.specs.declared.fault.SweepFault.{SweepFault}
 use Rattle.sweep.specs.declared.counting.Surveyed.{Surveyed}
 use Rattle.sweep.specs.Surveying.{shares_calls, HasAllNames, TellsSealed, TellsShares}
-use Rattle.sweep.specs.Swept.{account_calls, plan_of, SurveysAccount, TellsSurvey}
+use Rattle.sweep.specs.Swept.{account_calls, SurveysAccount, TellsSurvey}
+use Rattle.leftovers.specs.Faults.{plan_of}
 use Rattle.leftovers.proofs.lemmas.Readings.{asks_account}
 use Rattle.sweep.proofs.Steps.{first_fault, reads_then_fault, reads_then_told}
 use Rattle.sweep.proofs.SurveyCalls.{survey_paid}

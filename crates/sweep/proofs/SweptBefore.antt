@@ -16,17 +16,18 @@ use Rattle.account_calls.specs.Calls.{Any, Asks, Met, by_account}
 use Rattle.account_calls.specs.Listing.{HasNames, TellsNames, TellsOf}
 use Rattle.account_calls.proofs.lemmas.Walk.{length-keys}
 use Rattle.sweep.specs.declared.account.Swept.{Swept}
-use Rattle.sweep.specs.declared.account.SweepFault.{SweepFault}
+use Rattle.leftovers.specs.declared.fault.SweepFault.{SweepFault}
 use Rattle.sweep.specs.declared.forget.Aged.{Aged}
 use Rattle.sweep.specs.Aging.{AgesAll, Forgetting, ForgetsFirst, ForgetsOf, TellsAllAged, TellsSweptBefore, before_calls, names_forget_calls, old_of, record_beside}
 use Rattle.sweep.specs.Forgetting.{AreDated, all_old, is_undated, undated_left, without_kept}
-use Rattle.sweep.specs.Swept.{Forgets, ForgetsBy, SweepsBefore, TellsSwept, account_calls, as_plan}
-use Rattle.sweep.specs.Walk.{ComesOf, Spares, SweepsNames, names_calls}
+use Rattle.sweep.specs.Swept.{Forgets, ForgetsBy, SweepsBefore, TellsSwept, account_calls}
+use Rattle.leftovers.specs.Faults.{as_plan}
+use Rattle.sweep.specs.Walk.{Spares, SweepsNames, names_calls}
+use Rattle.sweep.proofs.PlanFaults.{ComesOf, forgetting_at}
 use Rattle.sweep.proofs.AccountCalls.{names_within}
 use Rattle.sweep.proofs.AgedAccounts.{aged_dated, became_there, files_fewer, leftovers_same, same_keys, there_before}
 use Rattle.sweep.proofs.ForgetCalls.{Pairs, forgetting_failed, forgetting_quiet, forgetting_quiet_failed, forgetting_then, forgetting_told, forgetting_vain, forgetting_here, forgot_here, no_olds, sound_here}
 use Rattle.sweep.proofs.ForgetSum.{forget_within}
-use Rattle.sweep.proofs.PlanFaults.{forgetting_at}
 use Rattle.sweep.proofs.Spared.{bucket_spared, uploads_spared}
 use Rattle.sweep.proofs.StateOlds.{olds_are, undated_are}
 

@@ -12,9 +12,10 @@ use Rattle.account_calls.specs.declared.fault.PlanFault.TheVariants as fault
 use Rattle.account_calls.specs.Calls.{Keeps}
 use Rattle.account_calls.specs.Stutters.{Stutters}
 use Rattle.sweep.specs.declared.account.Swept.{Swept}
-use Rattle.sweep.specs.declared.account.SweepFault.{SweepFault}
+use Rattle.leftovers.specs.declared.fault.SweepFault.{SweepFault}
 use Rattle.sweep.specs.Forgetting.{all_old, is_older, old_in, without_kept}
-use Rattle.sweep.specs.Swept.{Forgets, ForgetsBy, SweepsAccount, SweepsBefore, TellsSwept, as_plan}
+use Rattle.sweep.specs.Swept.{Forgets, ForgetsBy, SweepsAccount, SweepsBefore, TellsSwept}
+use Rattle.leftovers.specs.Faults.{as_plan}
 use Rattle.sweep.proofs.ForgetCalls.{Pairs, not_lt, without_nothing}
 
 none_older : (es : List (List ℕ × Completion)) → filter (λ (k : List ℕ × Completion). is_older 0 k.1) es ≡ []

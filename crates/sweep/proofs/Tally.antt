@@ -1,7 +1,6 @@
 -- What goes from a container is counted by the calls that are made.
 use Rattle.std.specs.Prelude.{◌≤◌, ◌<◌, ◌+◌, ◌^◌, ℕ, IfOk, Result, Ok, Err}
 use Rattle.std.proofs.Common.{refl, inl, inr, arith}
-use Rattle.account_calls.specs.declared.fault.PlanFault.{PlanFault}
 use Rattle.sweep.specs.declared.account.Swept.{Swept}
 use Rattle.sweep.specs.Walk.{Tallies}
 use Rattle.sweep.proofs.Beside.{swept_of}
@@ -24,6 +23,6 @@ tallies_later swept order told = record {
   leaves = told.leaves;
 }
 
-pub tallied_later : {p q : ℕ} (r : ℕ) → p ≤ q → (result : Result Swept PlanFault) → IfOk result (Tallies q r) → IfOk result (Tallies p r)
+pub tallied_later : {E : Type 0} {p q : ℕ} (r : ℕ) → p ≤ q → (result : Result Swept E) → IfOk result (Tallies q r) → IfOk result (Tallies p r)
 tallied_later r order (Ok swept) told = tallies_later swept order told
 tallied_later r order (Err f) told = tt

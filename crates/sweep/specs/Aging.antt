@@ -7,6 +7,8 @@ use Rattle.std.specs.FinMap.{get, keys, len}
 use Rattle.s3_names.specs.Bucket.{is_bucket}
 use Rattle.swift_calls.specs.Account.{SwiftAccount, files}
 use Rattle.swift_calls.specs.History.{History, present}
+use Rattle.swift_calls.specs.Files.{PutObject}
+use Rattle.upload_texts.specs.Records.{read_record}
 use Rattle.upload_texts.specs.declared.record.Record.{Record}
 use Rattle.upload_texts.specs.declared.record.Record.TheVariants.{Open, Done}
 use Rattle.upload_records.specs.Layout.{uploads_name}
@@ -19,9 +21,8 @@ use Rattle.account_calls.specs.Answers.{pages}
 use Rattle.account_calls.specs.Calls.{GoesOn, Met}
 use Rattle.account_calls.specs.Fault.{CausesFault}
 use Rattle.account_calls.specs.Purging.{Touches}
+use Rattle.account_calls.specs.Puts.{StandsIn}
 use Rattle.account_calls.specs.Stutters.{LastFailed}
-use Rattle.sweep.specs.declared.account.SweepFault.{SweepFault}
-use Rattle.sweep.specs.declared.account.SweepFault.TheVariants as why
 use Rattle.sweep.specs.declared.forget.Fate.{Fate}
 use Rattle.sweep.specs.declared.forget.Fate.TheVariants.{Left, Forgotten, Migrated}
 use Rattle.sweep.specs.declared.forget.Aged.{Aged}
@@ -87,11 +88,11 @@ record_type = codes "application/json"
 abbrev pub most_record_text : ℕ
 most_record_text = 2040000
 
--- a fault that names the object of a container
-abbrev pub NamesRecord : List ℕ → List ℕ → SweepFault → Type 0
-NamesRecord container name why.Failed = Unit {0}
-NamesRecord container name why.Memory = Unit {0}
-NamesRecord container name (why.Inconsistent folder object) = (folder ≡ container) × (object ≡ name)
+-- the record of a name stands with its moment, in a file of this container
+pub record StandsDated (folder name : List ℕ) (told : Record) (tree : SwiftAccount) : Type 0 where
+  pub text : List ℕ
+  pub reads : read_record text ≡ Some (dated told)
+  pub stands : StandsIn tree (PutObject folder name record_type [] text)
 
 -- ---- some records beside a bucket
 
@@ -262,4 +263,4 @@ pub record TellsSweptBefore (before : ℕ) (names : List (List ℕ)) (old new : 
   pub migrated : swept.migrated ≡ undated_of before names old
 
 abbrev pub before_calls : List (List ℕ) → SwiftAccount → ℕ
-before_calls names tree = names_forget_calls names tree + 4 * len tree + 12 * files_in tree
+before_calls names tree = names_forget_calls names tree + 5 * len tree + 12 * files_in tree

@@ -1,11 +1,13 @@
 -- One container beside a bucket is swept, by its name. Source: this profile.
-use Rattle.std.specs.Prelude.{◌≡◌, ◌+◌, ℕ, Bool, true, false, bytes_eq, is_some, List, Option, None, Some}
+use Rattle.std.specs.Prelude.{◌≡◌, ◌+◌, ℕ, Bool, true, false, bytes_eq, is_some, IsTrue, List, Option, None, Some, Result, IfOk}
 use Rattle.std.specs.FinMap.{get}
 use Rattle.gate_base.specs.Maps.{Names}
 use Rattle.s3_names.specs.Bucket.{is_bucket}
 use Rattle.swift_calls.specs.Account.{SwiftAccount}
+use Rattle.swift_calls.specs.History.{History, present}
 use Rattle.upload_records.specs.Native.{IsSettled}
 use Rattle.upload_records.specs.Consistent.{IsThere}
+use Rattle.account_calls.specs.declared.fault.PlanFault.{PlanFault}
 use Rattle.sweep.specs.declared.account.Swept.{Swept}
 use Rattle.leftovers.specs.declared.sides.Kind.{Kind}
 use Rattle.leftovers.specs.declared.sides.Kind.TheVariants.{Records, Segments}
@@ -36,6 +38,14 @@ pub record SweepsSide (kind : Kind) (bucket : List ℕ) (old new : SwiftAccount)
   pub none : left_beside new kind bucket ≡ nothing_left
   pub others : (name : List ℕ) → bytes_eq name (folder_beside kind bucket) ≡ false → get new name ≡ get old name
   pub spared : kind ≡ Records → IsThere old bucket → new ≡ old
+
+-- over every observable store, consistent or not, nothing goes from beside a bucket that the listing of the account had and that HEAD misses
+pub record HeedsListed (table : Names Bool) (bucket : List ℕ) (old new : History) (result : Result Swept PlanFault) : Type 0 where
+  pub so : IsTrue old.observable → is_some (get table bucket) ≡ true → get (present old) bucket ≡ None → (present new ≡ present old) × IfOk result (λ swept. ⊥)
+
+-- over every observable store nothing changes but containers beside a bucket: no bucket of its own, and not what the gateway keeps
+pub record SparesOthers (old new : History) : Type 0 where
+  pub so : IsTrue old.observable → (name : List ℕ) → side_of name ≡ None → get (present new) name ≡ get (present old) name
 
 -- HEAD of the bucket, and what follows it
 abbrev pub calls_there : SwiftAccount → Kind → List ℕ → ℕ

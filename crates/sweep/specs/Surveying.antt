@@ -1,5 +1,5 @@
 -- What stands on an account is counted, container by container. Source: this profile.
-use Rattle.std.specs.Prelude.{◌≡◌, ◌≤◌, ◌+◌, ◌⊎◌, ℕ, Bool, true, false, not, List, length, sum_by, Option, None, Some}
+use Rattle.std.specs.Prelude.{◌≡◌, ◌≤◌, ◌+◌, ℕ, Bool, true, false, not, List, length, sum_by, Option, None, Some}
 use Rattle.std.specs.List.{filter}
 use Rattle.std.specs.FinMap.{keys, len}
 use Rattle.gate_base.specs.Maps.{Names}
@@ -9,12 +9,8 @@ use Rattle.upload_texts.specs.declared.sealed.Sealed.{Sealed}
 use Rattle.upload_records.specs.Layout.{segments_name, uploads_name}
 use Rattle.upload_records.specs.Native.{seal_of}
 use Rattle.upload_records.specs.Consistent.{IsThere}
-use Rattle.account_calls.specs.declared.fault.PlanFault.{PlanFault}
-use Rattle.account_calls.specs.declared.fault.PlanFault.TheVariants as plan
 use Rattle.account_calls.specs.Answers.{pages}
 use Rattle.list_pages.specs.declared.page.TheConstants.{MOST_NAMES}
-use Rattle.sweep.specs.declared.account.SweepFault.{SweepFault}
-use Rattle.sweep.specs.declared.account.SweepFault.TheVariants as why
 use Rattle.leftovers.specs.declared.sides.Kind.TheVariants.{Segments}
 use Rattle.sweep.specs.declared.counting.Surveyed.{Surveyed}
 use Rattle.leftovers.specs.declared.gathering.Source.TheVariants.{Records}
@@ -201,11 +197,3 @@ TellsShares names tree told = told ≡ shares_of tree names
 
 abbrev pub shares_calls : SwiftAccount → List (List ℕ) → ℕ
 shares_calls tree names = sum_by (share_calls tree) names
-
--- ---- the fault of a survey
-
--- it names the container and the object where the store was found inconsistent; or there was no memory to name them
-abbrev pub IsFaultAt : List ℕ → List ℕ → PlanFault → SweepFault → Type 0
-IsFaultAt container name plan.Failed fault = fault ≡ why.Failed
-IsFaultAt container name plan.Memory fault = fault ≡ why.Memory
-IsFaultAt container name plan.Inconsistent fault = (fault ≡ why.Memory) ⊎ (fault ≡ why.Inconsistent container name)

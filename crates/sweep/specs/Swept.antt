@@ -16,22 +16,12 @@ use Rattle.account_calls.specs.Listing.{TellsOf}
 use Rattle.account_calls.specs.Stutters.{LastFailed}
 use Rattle.sweep.specs.Forgetting.{AreDated, buckets_in, count_records, all_old, forgotten, undated_left}
 use Rattle.leftovers.specs.Leftovers.{IsClean, Leftovers, is_open, leftovers}
-use Rattle.sweep.specs.declared.account.SweepFault.{SweepFault}
-use Rattle.sweep.specs.declared.account.SweepFault.TheVariants as why
+use Rattle.leftovers.specs.Faults.{as_plan}
+use Rattle.leftovers.specs.declared.fault.SweepFault.{SweepFault}
 use Rattle.sweep.specs.declared.account.Swept.{Swept}
 use Rattle.sweep.specs.declared.counting.Surveyed.{Surveyed}
 
 -- ---- the account
-
--- the fault of a plan that an account couldn't be swept by; what it names is dropped
-abbrev pub plan_of : SweepFault → PlanFault
-plan_of why.Failed = fault.Failed
-plan_of why.Memory = fault.Memory
-plan_of (why.Inconsistent container name) = fault.Inconsistent
-
-abbrev pub as_plan : {T : Type 0} → Result T SweepFault → Result T PlanFault
-as_plan (Ok told) = Ok told
-as_plan (Err f) = Err (plan_of f)
 
 -- the objects of all containers
 abbrev pub files_in : SwiftAccount → ℕ

@@ -1,17 +1,13 @@
 -- The containers of an account are swept one after another, by their names. Source: this profile.
-use Rattle.std.specs.Prelude.{◌≡◌, ◌⊎◌, ◌≤◌, ◌<◌, ◌+◌, ◌^◌, ℕ, Bool, is_some, sum_by, List, Contains, Result, Ok, Err}
+use Rattle.std.specs.Prelude.{◌≡◌, ◌⊎◌, ◌≤◌, ◌<◌, ◌+◌, ◌^◌, ℕ, Bool, is_some, sum_by, List}
 use Rattle.std.specs.List.{list_any}
 use Rattle.std.specs.Ordering.{eq_by_cmp}
 use Rattle.std.specs.FinMap.{get}
 use Rattle.gate_base.specs.Maps.{Names, name_cmp}
 use Rattle.swift_calls.specs.Account.{SwiftAccount}
-use Rattle.account_calls.specs.declared.fault.PlanFault.{PlanFault}
-use Rattle.account_calls.specs.declared.fault.PlanFault.TheVariants as fault
 use Rattle.sweep.specs.Containers.{name_calls, IsSpared}
 use Rattle.leftovers.specs.Sides.{side_of}
-use Rattle.sweep.specs.Swept.{plan_of, TellsSwept}
-use Rattle.sweep.specs.declared.account.SweepFault.{SweepFault}
-use Rattle.sweep.specs.declared.account.SweepFault.TheVariants as why
+use Rattle.sweep.specs.Swept.{TellsSwept}
 use Rattle.sweep.specs.declared.account.Swept.{Swept}
 
 -- a name is among these
@@ -63,19 +59,3 @@ pub record Spares (old new : SwiftAccount) : Type 0 where
 pub record SweepsNames (old new : SwiftAccount) (swept : Swept) : Type 0 where
   pub sweeps : TellsSwept old new swept
   pub spares : Spares old new
-
--- ---- what is told of a fault
-
--- it is the plan's, or memory ran out where the container was to be named
-abbrev pub ComesOf : PlanFault → SweepFault → Type 0
-ComesOf of_plan told = (plan_of told ≡ of_plan) ⊎ ((of_plan ≡ fault.Inconsistent) × (told ≡ why.Memory))
-
--- it names one of these containers
-abbrev pub NamesOneOf : List (List ℕ) → SweepFault → Type 0
-NamesOneOf names why.Failed = Unit {0}
-NamesOneOf names why.Memory = Unit {0}
-NamesOneOf names (why.Inconsistent container name) = Contains names container
-
-abbrev pub NamesContainer : List (List ℕ) → Result Swept SweepFault → Type 0
-NamesContainer names (Ok swept) = Unit {0}
-NamesContainer names (Err told) = NamesOneOf names told

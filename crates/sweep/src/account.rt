@@ -1,11 +1,9 @@
 //! A sweep of an account: what is left over is removed, and counted.
 ghost use Rattle.sweep.specs.Swept.{SweepsAccount, SweepsBefore};
-ghost use Rattle.std.specs.Prelude.{◌≡◌};
 
 use crate::forget_walk::sweep_names_before;
-use crate::walk::listing_fault;
 use account_calls::container_names;
-use gate_base::{Bytes, Memory};
+use leftovers::{SweepFault, file_fault};
 use std::alloc::Global;
 use swift_calls::Swift;
 
@@ -24,28 +22,6 @@ pub struct Swept {
     pub forgotten: u64,
 }
 
-/// Why an account could not be swept or surveyed.
-#[derive(Debug, Drop)]
-pub enum SweepFault {
-    /// The last call of the store failed: its count of faults rose.
-    Failed,
-    /// Memory ran out.
-    Memory,
-    /// The store answered what it doesn't answer over a consistent account, while this container was gone through. The name of an object in
-    /// it may be empty, and that of the container too, where the listing of the account was at fault.
-    Inconsistent { container: Bytes, name: Bytes },
-}
-
-impl From<Memory> for SweepFault {
-    ghost use Rattle.sweep.specs.declared.account.SweepFault.{SweepFault};
-
-    ghost from_gives = { λ _ fault. fault ≡ SweepFault.Memory };
-
-    fn from(_: Memory) -> SweepFault {
-        SweepFault::Memory
-    }
-}
-
 /// Removes what is left over on a settled account, and counts it; it forgets nothing, and the S3 state stays. The record of each kept
 /// completion that lacks its moment gets the start of its upload as it. Calls and faults as for [`sweep_before`], of which it is the case
 /// that no moment is before.
@@ -60,7 +36,7 @@ pub fn sweep<W: Swift>(alloc: Global, store: &mut W) -> Result<Swept, SweepFault
 /// id in byte order; the record of each other completion that lacks its moment gets the start of its upload as it. Then it removes what is
 /// left over, container by container in the order of their names. All of these are counted. At most 4 calls, and 16 for each container and
 /// each object in them, where the store is observable and its account consistent. Failed comes only where the store's count of faults
-/// rose; Memory where memory ran out; Inconsistent, with the container and where it is known the object that was asked for, never over an
+/// rose; Memory where memory ran out; Inconsistent, with the file that was asked for and its container, never over an
 /// observable consistent account that is settled. After a fault what was done stays done. The names of all containers are held, and of one
 /// bucket at a time a page of names, one record or one list of segments, the ids of its open uploads and the names that its objects list.
 pub fn sweep_before<W: Swift>(
@@ -72,6 +48,6 @@ pub fn sweep_before<W: Swift>(
 {
     match container_names(alloc, store) {
         Ok(names) => sweep_names_before(alloc, store, names.as_slice(), before),
-        Err(fault) => Err(listing_fault(alloc, fault)),
+        Err(fault) => Err(file_fault(alloc, fault, b"", b"")),
     }
 }

@@ -7,15 +7,16 @@ ghost use Rattle.account_calls.specs.Answers.{pages};
 ghost use Rattle.account_calls.specs.Calls.{always, by_account, Any, Asks};
 ghost use Rattle.account_calls.specs.Listing.{TellsNames, TellsOf};
 ghost use Rattle.account_calls.specs.Told.{LeavesThroughout};
-ghost use Rattle.sweep.specs.Surveying.{plus, share_calls, shares_calls, HasName, HasAllNames, IsFaultAt, TellsSealed, TellsShares, TellsSum};
-ghost use Rattle.sweep.specs.Swept.{as_plan, SurveysAccount};
+ghost use Rattle.sweep.specs.Surveying.{plus, share_calls, shares_calls, HasName, HasAllNames, TellsSealed, TellsShares, TellsSum};
+ghost use Rattle.sweep.specs.Swept.{SurveysAccount};
+ghost use Rattle.leftovers.specs.Faults.{as_plan};
 
-use crate::account::SweepFault;
 use crate::file_counts::add_counts;
 use crate::sealed::get_sealed;
 use crate::shares::survey_name;
-use account_calls::{PlanFault, container_names};
+use account_calls::container_names;
 use gate_base::{Bytes, List, Memory};
+use leftovers::{SweepFault, file_fault};
 use std::alloc::Global;
 use swift_calls::Swift;
 use upload_texts::Sealed;
@@ -56,25 +57,6 @@ fn plus(a: &Surveyed, b: &Surveyed) -> Result<Surveyed, Memory>
     })
 }
 
-/// The fault of a survey at a container and an object of it; the name is empty where it is the container's own.
-fn survey_fault(alloc: Global, fault: PlanFault, container: &[u8], name: &[u8]) -> SweepFault
-    ensures { IsFaultAt container.now name.now fault result }
-{
-    match fault {
-        PlanFault::Failed => SweepFault::Failed,
-        PlanFault::Memory => SweepFault::Memory,
-        PlanFault::Inconsistent => {
-            match (
-                Bytes::from_slice(alloc, container),
-                Bytes::from_slice(alloc, name),
-            ) {
-                (Ok(container), Ok(name)) => SweepFault::Inconsistent { container, name },
-                _ => SweepFault::Memory,
-            }
-        }
-    }
-}
-
 /// Adds what a container has.
 fn add_share<W: Swift>(
     alloc: Global,
@@ -82,11 +64,11 @@ fn add_share<W: Swift>(
     sealed: &Option<Sealed>,
     name: &Bytes,
     total: &Surveyed,
-) -> Result<Surveyed, PlanFault>
+) -> Result<Surveyed, SweepFault>
     requires { IfSome sealed.now (λ s. has_sealed_text s ≡ true) }
     ensures asks { Asks (by_account (share_calls (present (W.history store.old)) name.now))
         (W.history store.old) (W.history store.new) (HasName sealed.now name.now)
-        (TellsOf (TellsSum total.now name.now)) result }
+        (TellsOf (TellsSum total.now name.now)) (as_plan result) }
     ensures leaves { LeavesThroughout (W.history store.old) (W.history store.new) }
 {
     let share = survey_name(alloc, store, sealed, name)?;
@@ -115,10 +97,7 @@ fn survey_names<W: Swift>(
         sealed: false,
     };
     for name in names {
-        match add_share(alloc, store, sealed, name, &total) {
-            Ok(sum) => total = sum,
-            Err(fault) => return Err(survey_fault(alloc, fault, name.as_slice(), b"")),
-        }
+        total = add_share(alloc, store, sealed, name, &total)?;
     }
     Ok(total)
 }
@@ -132,7 +111,7 @@ fn survey_sealed<W: Swift>(alloc: Global, store: &mut W) -> Result<Option<Sealed
 {
     match get_sealed(alloc, store) {
         Ok(found) => Ok(found),
-        Err(fault) => Err(survey_fault(alloc, fault, b"+gateway", b"sealed")),
+        Err(fault) => Err(file_fault(alloc, fault, b"+gateway", b"sealed")),
     }
 }
 
@@ -144,7 +123,7 @@ fn survey_containers<W: Swift>(alloc: Global, store: &mut W) -> Result<List<Byte
 {
     match container_names(alloc, store) {
         Ok(names) => Ok(names),
-        Err(fault) => Err(survey_fault(alloc, fault, b"", b"")),
+        Err(fault) => Err(file_fault(alloc, fault, b"", b"")),
     }
 }
 
@@ -152,9 +131,8 @@ fn survey_containers<W: Swift>(alloc: Global, store: &mut W) -> Result<List<Byte
 /// or not. At most 4 calls, and 16 for each container and each object in them,
 /// where the store is observable and its account consistent. Failed comes only where the store's count of faults rose; Memory where
 /// memory ran out, or 64 bits don't hold a count; Inconsistent never over an observable consistent account. It names
-/// the bucket that was counted, for the containers beside it too, or the container that stands beside a bucket that may be missing;
-/// the file of what is sealed, where that can't be read; and nothing, where the listing of the containers can't. Of any other object
-/// the name is empty.
+/// the file that was asked for and its container; the container alone, where its listing or its HEAD was at fault; and nothing,
+/// where the listing of the account was.
 pub fn survey<W: Swift>(alloc: Global, store: &mut W) -> Result<Surveyed, SweepFault>
     ensures asks { SurveysAccount (W.history store.old) (W.history store.new) result }
     ensures leaves { LeavesThroughout (W.history store.old) (W.history store.new) }

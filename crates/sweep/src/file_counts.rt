@@ -7,12 +7,13 @@ ghost use Rattle.swift_calls.specs.Step.{IsContainerName};
 ghost use Rattle.account_calls.specs.Calls.{always, by_account, Any, Asks};
 ghost use Rattle.account_calls.specs.Listing.{TellsOf};
 ghost use Rattle.account_calls.specs.Told.{LeavesThroughout};
+ghost use Rattle.leftovers.specs.Faults.{as_plan};
 ghost use Rattle.leftovers.specs.Used.{is_taken};
 ghost use Rattle.sweep.specs.Surveying.{one_more, page_calls, TalliesFiles, TellsTallied, TellsTally};
 
-use account_calls::{PlanFault, next_marker};
+use account_calls::next_marker;
 use gate_base::{Bytes, Memory};
-use leftovers::{Used, file_page};
+use leftovers::{SweepFault, Used, file_page};
 use std::alloc::Global;
 use swift_calls::{NameItem, Swift};
 
@@ -69,14 +70,14 @@ fn tally_page<W: Swift>(
     used: &Used,
     marker: &Bytes,
     total: FileCount,
-) -> Result<(FileCount, Option<Bytes>), PlanFault>
+) -> Result<(FileCount, Option<Bytes>), SweepFault>
     requires folder { IsContainerName folder.now }
     requires marker { IsMarker marker.now }
     ensures counted { IfOk result (λ _. (W.history store.old).called < budget
         × ((W.history store.new).called ≡ (W.history store.old).called + 1)) }
     ensures is_marker { IfOk result (λ told. IfSome told.1 IsMarker) }
     ensures asks { Asks (always 1) (W.history store.old) (W.history store.new) Any
-        (TellsOf (TellsTallied (is_taken used.now) folder.now marker.now total)) result }
+        (TellsOf (TellsTallied (is_taken used.now) folder.now marker.now total)) (as_plan result) }
     ensures leaves { LeavesThroughout (W.history store.old) (W.history store.new) }
 {
     let page = file_page(alloc, store, folder.as_slice(), marker.as_slice())?;
@@ -93,11 +94,11 @@ pub(crate) fn tally_files<W: Swift>(
     store: &mut W,
     folder: &Bytes,
     used: &Used,
-) -> Result<FileCount, PlanFault>
+) -> Result<FileCount, SweepFault>
     requires { IsContainerName folder.now }
     ensures asks { Asks (by_account (page_calls (present (W.history store.old)) folder.now))
         (W.history store.old) (W.history store.new) Any
-        (TellsOf (TellsTally (is_taken used.now) folder.now)) result }
+        (TellsOf (TellsTally (is_taken used.now) folder.now)) (as_plan result) }
     ensures leaves { LeavesThroughout (W.history store.old) (W.history store.new) }
 {
     let mut total = FileCount { used: 0, unused: 0 };

@@ -8,16 +8,14 @@ ghost use Rattle.swift_calls.specs.Files.{PutObject};
 ghost use Rattle.upload_texts.specs.Records.{has_record_text, read_record};
 ghost use Rattle.upload_records.specs.Layout.{uploads_name};
 ghost use Rattle.account_calls.specs.Calls.{always, Asks};
-ghost use Rattle.account_calls.specs.declared.fault.PlanFault.TheVariants as fault;
-ghost use Rattle.sweep.specs.Aging.{dated, done_fate, fate, is_old, most_record_text, old_among, record_type, Forgetting, HasFile, HasRecord, IsRecordsOf, NamesRecord, TellsAged, TellsGone};
+ghost use Rattle.account_calls.specs.Puts.{Ensures};
+ghost use Rattle.sweep.specs.Aging.{dated, done_fate, fate, is_old, most_record_text, old_among, record_type, Forgetting, HasFile, HasRecord, IsRecordsOf, StandsDated, TellsAged, TellsGone};
 ghost use Rattle.sweep.specs.Forgetting.{is_undated};
-ghost use Rattle.sweep.specs.Swept.{as_plan, plan_of};
-ghost use Rattle.sweep.specs.Walk.{ComesOf};
+ghost use Rattle.leftovers.specs.Faults.{as_plan, NamesFile};
 
-use crate::account::SweepFault;
 use account_calls::{PlanFault, ask, interpret_file_delete, interpret_put_with_etag};
 use gate_base::{Bytes, Copying, List, Memory, drop};
-use leftovers::get_listed_record;
+use leftovers::{SweepFault, file_fault, get_listed_record};
 use s3_machine::body_etag;
 use std::alloc::Global;
 use swift_calls::{FilePut, Swift, SwiftRequest};
@@ -177,6 +175,7 @@ fn put_dated_record<W: Swift>(
         → folder.now ≡ uploads_name bucket → is_old before (Some told) ≡ false
         → Asks (always 1) (W.history store.old) (W.history store.new)
         (HasRecord bucket name.now told) (TellsGone before bucket name.now) result }
+    ensures stands { Ensures (W.history store.new) (StandsDated folder.now name.now told) result }
 {
     let text = dated_record_text(alloc, told)?;
     let etag = body_etag(text.as_slice());
@@ -252,31 +251,6 @@ fn forget_record<W: Swift>(
     age_record(alloc, store, folder, name, told, before)
 }
 
-/// An inconsistent store, by the container and the object that it was asked for.
-fn inconsistent_at(container: &Bytes, name: &Bytes) -> Result<SweepFault, Memory>
-    ensures comes { IfOk result (λ told. plan_of told ≡ fault.Inconsistent) }
-    ensures names { IfOk result (NamesRecord container.now name.now) }
-{
-    let container = container.copy()?;
-    let name = name.copy()?;
-    Ok(SweepFault::Inconsistent { container, name })
-}
-
-/// A fault over the record of a name, which it names where the store was inconsistent.
-fn record_fault(fault: PlanFault, container: &Bytes, name: &Bytes) -> SweepFault
-    ensures comes { ComesOf fault result }
-    ensures names { NamesRecord container.now name.now result }
-{
-    match fault {
-        PlanFault::Failed => SweepFault::Failed,
-        PlanFault::Memory => SweepFault::Memory,
-        PlanFault::Inconsistent => match inconsistent_at(container, name) {
-            Ok(told) => told,
-            Err(_) => SweepFault::Memory,
-        },
-    }
-}
-
 /// The same as [`forget_record`], with a fault that names the record.
 pub(crate) fn forget_named_record<W: Swift>(
     alloc: Global,
@@ -290,7 +264,7 @@ pub(crate) fn forget_named_record<W: Swift>(
     ensures counted { IfOk result (λ told. ((W.history store.old).called + (told.forgotten + told.migrated) < (W.history store.new).called)
         × ((W.history store.new).called ≤ budget)) }
     ensures near { (W.history store.new).called ≤ (W.history store.old).called + 2 }
-    ensures names { IfErr result (NamesRecord folder.now name.now) }
+    ensures names { IfErr result (NamesFile folder.now name.now) }
     ensures forgets { (bucket : List ℕ) → IsRecordsOf folder.now bucket
         → Forgetting (W.history store.old) (W.history store.new) (HasFile bucket name.now)
         (old_among before bucket (name.now ∷ [])) (TellsAged before bucket (name.now ∷ []))
@@ -298,6 +272,6 @@ pub(crate) fn forget_named_record<W: Swift>(
 {
     match forget_record(alloc, store, folder, name, before) {
         Ok(told) => Ok(told),
-        Err(fault) => Err(record_fault(fault, folder, name)),
+        Err(fault) => Err(file_fault(alloc, fault, folder.as_slice(), name.as_slice())),
     }
 }

@@ -13,14 +13,14 @@ ghost use Rattle.account_calls.specs.Listing.{HasNames, TellsOf};
 ghost use Rattle.sweep.specs.Aging.{AreDistinct, before_calls, names_forget_calls, old_among, old_beside, old_of, page_of, Forgetting, HasFiles, IsRecordsOf, MakesForgetCalls, PaysForgetting, TellsAged, TellsAgedPage, TellsAllAged, TellsBeside, TellsSweptBefore};
 ghost use Rattle.sweep.specs.Containers.{HasContainer};
 ghost use Rattle.leftovers.specs.Segments.{HasSettled};
-ghost use Rattle.sweep.specs.Swept.{as_plan};
+ghost use Rattle.leftovers.specs.Faults.{as_plan};
 
-use crate::account::{SweepFault, Swept};
+use crate::account::Swept;
 use crate::forget::{Aged, forget_named_record};
-use crate::walk::{fault_at, sweep_names};
+use crate::walk::sweep_names;
 use account_calls::next_marker;
 use gate_base::{Bytes, List};
-use leftovers::file_page;
+use leftovers::{SweepFault, file_page};
 use s3_names::is_bucket;
 use std::alloc::Global;
 use swift_calls::{NameItem, Swift};
@@ -74,10 +74,7 @@ fn aging_page<W: Swift>(
     ensures asks { Asks (always 1) (W.history store.old) (W.history store.new) Any
         (TellsOf (TellsFiles folder.now [] marker.now)) (as_plan result) }
 {
-    match file_page(alloc, store, folder.as_slice(), marker.as_slice()) {
-        Ok(page) => Ok(page),
-        Err(fault) => Err(fault_at(alloc, fault, folder)),
-    }
+    file_page(alloc, store, folder.as_slice(), marker.as_slice())
 }
 
 /// Does it with a page of records. What is told beside the numbers is the marker of the next page, and `None` after the last one.

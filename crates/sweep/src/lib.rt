@@ -12,6 +12,6 @@ mod sealed;
 mod shares;
 mod walk;
 
-pub use account::{SweepFault, Swept, sweep, sweep_before};
+pub use account::{Swept, sweep, sweep_before};
 pub use counting::{Surveyed, survey};
 pub use laws::{law_kept_dated, law_kept_forgotten};

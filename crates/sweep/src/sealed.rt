@@ -6,7 +6,7 @@ ghost use Rattle.account_calls.specs.Listing.{TellsOf};
 ghost use Rattle.account_calls.specs.Told.{LeavesThroughout};
 ghost use Rattle.sweep.specs.Surveying.{TellsSealed};
 
-use account_calls::{PlanFault, ask, interpret_sealed_get};
+use account_calls::{PlanFault, ask_newest, interpret_sealed_get};
 use std::alloc::Global;
 use swift_calls::{Swift, SwiftRequest};
 use upload_records::{gateway_container, sealed_name};
@@ -31,6 +31,6 @@ pub(crate) fn get_sealed<W: Swift>(
         name,
         range: None,
     };
-    let reply = ask(store, request)?;
+    let reply = ask_newest(store, request)?;
     interpret_sealed_get(alloc, &reply)
 }

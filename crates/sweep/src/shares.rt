@@ -7,14 +7,16 @@ ghost use Rattle.upload_records.specs.Layout.{segments_name};
 ghost use Rattle.account_calls.specs.Calls.{by_account, Any, Asks};
 ghost use Rattle.account_calls.specs.Listing.{TellsOf};
 ghost use Rattle.account_calls.specs.Told.{LeavesThroughout};
+ghost use Rattle.leftovers.specs.Faults.{as_plan};
 ghost use Rattle.leftovers.specs.Gathering.{InBucket};
 ghost use Rattle.sweep.specs.Surveying.{bucket_calls, orphans_calls, page_calls, records_calls, share_calls, stray_calls, HasName, HasOpened, TellsBucketShare, TellsObjects, TellsOrphans, TellsRecords, TellsShare, TellsStray, TellsStrayShare};
 
 use crate::counting::Surveyed;
 use crate::file_counts::{FileCount, tally_files};
-use account_calls::PlanFault;
 use gate_base::Bytes;
-use leftovers::{Kept, Kind, Source, Used, add_sealed, bucket_beside, gather, is_there};
+use leftovers::{
+    Kept, Kind, Source, SweepFault, Used, add_sealed, bucket_beside, gather, is_there,
+};
 use name_table::Table;
 use s3_names::is_bucket;
 use std::alloc::Global;
@@ -23,10 +25,10 @@ use upload_records::{segments_container, uploads_container};
 use upload_texts::Sealed;
 
 /// How many objects a bucket has. At most as many calls as there are pages of them.
-fn count_objects<W: Swift>(alloc: Global, store: &mut W, bucket: &Bytes) -> Result<u64, PlanFault>
+fn count_objects<W: Swift>(alloc: Global, store: &mut W, bucket: &Bytes) -> Result<u64, SweepFault>
     requires { is_bucket bucket.now ≡ true }
     ensures asks { Asks (by_account (page_calls (present (W.history store.old)) bucket.now))
-        (W.history store.old) (W.history store.new) Any (TellsOf (TellsObjects bucket.now)) result }
+        (W.history store.old) (W.history store.new) Any (TellsOf (TellsObjects bucket.now)) (as_plan result) }
     ensures leaves { LeavesThroughout (W.history store.old) (W.history store.new) }
 {
     let used = Used::nothing(alloc);
@@ -39,11 +41,11 @@ fn survey_records<W: Swift>(
     alloc: Global,
     store: &mut W,
     bucket: &Bytes,
-) -> Result<(Table<bool>, FileCount), PlanFault>
+) -> Result<(Table<bool>, FileCount), SweepFault>
     requires { is_bucket bucket.now ≡ true }
     ensures asks { Asks (by_account (records_calls (present (W.history store.old)) bucket.now))
         (W.history store.old) (W.history store.new) (InBucket bucket.now)
-        (TellsOf (TellsRecords bucket.now)) result }
+        (TellsOf (TellsRecords bucket.now)) (as_plan result) }
     ensures leaves { LeavesThroughout (W.history store.old) (W.history store.new) }
 {
     let folder = uploads_container(alloc, bucket.as_slice())?;
@@ -60,12 +62,12 @@ fn count_orphans<W: Swift>(
     sealed: &Option<Sealed>,
     bucket: &Bytes,
     opened: Table<bool>,
-) -> Result<u64, PlanFault>
+) -> Result<u64, SweepFault>
     requires bucket { is_bucket bucket.now ≡ true }
     requires sealed { IfSome sealed.now (λ s. has_sealed_text s ≡ true) }
     ensures asks { Asks (by_account (orphans_calls (present (W.history store.old)) bucket.now))
         (W.history store.old) (W.history store.new) (HasOpened sealed.now bucket.now opened)
-        (TellsOf (TellsOrphans bucket.now)) result }
+        (TellsOf (TellsOrphans bucket.now)) (as_plan result) }
     ensures leaves { LeavesThroughout (W.history store.old) (W.history store.new) }
 {
     let folder = segments_container(alloc, bucket.as_slice())?;
@@ -85,12 +87,12 @@ fn survey_bucket<W: Swift>(
     store: &mut W,
     sealed: &Option<Sealed>,
     bucket: &Bytes,
-) -> Result<Surveyed, PlanFault>
+) -> Result<Surveyed, SweepFault>
     requires bucket { is_bucket bucket.now ≡ true }
     requires sealed { IfSome sealed.now (λ s. has_sealed_text s ≡ true) }
     ensures asks { Asks (by_account (bucket_calls (present (W.history store.old)) bucket.now))
         (W.history store.old) (W.history store.new) (HasName sealed.now bucket.now)
-        (TellsOf (TellsBucketShare bucket.now)) result }
+        (TellsOf (TellsBucketShare bucket.now)) (as_plan result) }
     ensures leaves { LeavesThroughout (W.history store.old) (W.history store.new) }
 {
     let objects = count_objects(alloc, store, bucket)?;
@@ -113,14 +115,14 @@ fn count_strays<W: Swift>(
     store: &mut W,
     bucket: &Bytes,
     folder: &Bytes,
-) -> Result<u64, PlanFault>
+) -> Result<u64, SweepFault>
     requires bucket { is_bucket bucket.now ≡ true }
     requires folder { folder.now ≡ segments_name bucket.now }
     ensures asks { Asks (by_account (stray_calls (present (W.history store.old)) bucket.now))
-        (W.history store.old) (W.history store.new) Any (TellsOf (TellsStray bucket.now)) result }
+        (W.history store.old) (W.history store.new) Any (TellsOf (TellsStray bucket.now)) (as_plan result) }
     ensures leaves { LeavesThroughout (W.history store.old) (W.history store.new) }
 {
-    if is_there(store, bucket)? {
+    if is_there(alloc, store, bucket)? {
         return Ok(0);
     }
     let used = Used::nothing(alloc);
@@ -134,11 +136,11 @@ fn survey_strays<W: Swift>(
     store: &mut W,
     bucket: &Bytes,
     folder: &Bytes,
-) -> Result<Surveyed, PlanFault>
+) -> Result<Surveyed, SweepFault>
     requires bucket { is_bucket bucket.now ≡ true }
     requires folder { folder.now ≡ segments_name bucket.now }
     ensures asks { Asks (by_account (stray_calls (present (W.history store.old)) bucket.now))
-        (W.history store.old) (W.history store.new) Any (TellsOf (TellsStrayShare bucket.now)) result }
+        (W.history store.old) (W.history store.new) Any (TellsOf (TellsStrayShare bucket.now)) (as_plan result) }
     ensures leaves { LeavesThroughout (W.history store.old) (W.history store.new) }
 {
     let orphans = count_strays(alloc, store, bucket, folder)?;
@@ -153,10 +155,10 @@ fn survey_strays<W: Swift>(
 }
 
 /// What a container has of a survey that stands under a name of no bucket.
-fn survey_side<W: Swift>(alloc: Global, store: &mut W, name: &Bytes) -> Result<Surveyed, PlanFault>
+fn survey_side<W: Swift>(alloc: Global, store: &mut W, name: &Bytes) -> Result<Surveyed, SweepFault>
     requires { is_bucket name.now ≡ false }
     ensures asks { Asks (by_account (share_calls (present (W.history store.old)) name.now))
-        (W.history store.old) (W.history store.new) Any (TellsOf (TellsShare name.now)) result }
+        (W.history store.old) (W.history store.new) Any (TellsOf (TellsShare name.now)) (as_plan result) }
     ensures leaves { LeavesThroughout (W.history store.old) (W.history store.new) }
 {
     match bucket_beside(alloc, name, Kind::Segments)? {
@@ -178,11 +180,11 @@ pub(crate) fn survey_name<W: Swift>(
     store: &mut W,
     sealed: &Option<Sealed>,
     name: &Bytes,
-) -> Result<Surveyed, PlanFault>
+) -> Result<Surveyed, SweepFault>
     requires { IfSome sealed.now (λ s. has_sealed_text s ≡ true) }
     ensures asks { Asks (by_account (share_calls (present (W.history store.old)) name.now))
         (W.history store.old) (W.history store.new) (HasName sealed.now name.now)
-        (TellsOf (TellsShare name.now)) result }
+        (TellsOf (TellsShare name.now)) (as_plan result) }
     ensures leaves { LeavesThroughout (W.history store.old) (W.history store.new) }
 {
     if is_bucket(name.as_slice()) {

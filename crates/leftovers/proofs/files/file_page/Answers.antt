@@ -1,15 +1,17 @@
-use Rattle.account_calls.proofs.lemmas.FilePages.{page_fault, page_told}
-use Rattle.account_calls.proofs.lemmas.Left.{throughout_page}
+use Rattle.leftovers.proofs.lemmas.Faults.{fault_at}
 use Rattle.leftovers.proofs.files.file_page.Goals as goal
 
-pub returns-in_err-names-clause-asks : goal.returns-in_err-names-clause-asks
-returns-in_err-names-clause-asks g c = page_fault _ _ _ c.in_err-names.ensures.asks _ c.from_residual.ensures.1
+pub returns-in-Ok-clause-asks : goal.returns-in-Ok-clause-asks
+returns-in-Ok-clause-asks g c = c.in-Ok.ensures.asks
 
-pub returns-clause-asks : goal.returns-clause-asks
-returns-clause-asks g c = page_told _ _ _ c.in_ok-names.ensures.asks
+pub returns-in-Err-clause-asks : goal.returns-in-Err-clause-asks
+returns-in-Err-clause-asks g c = fault_at _ _ c.in-Err.fault c.file_fault.result c.file_fault.ensures c.in-Err.ensures.asks
 
-pub returns-in_err-names-clause-leaves : goal.returns-in_err-names-clause-leaves
-returns-in_err-names-clause-leaves g c = throughout_page c.in_err-names.ensures.asks
+pub returns-in-Ok-clause-leaves : goal.returns-in-Ok-clause-leaves
+returns-in-Ok-clause-leaves g c = c.in-Ok.ensures.leaves
 
-pub returns-clause-leaves : goal.returns-clause-leaves
-returns-clause-leaves g c = throughout_page c.in_ok-names.ensures.asks
+pub returns-in-Err-clause-leaves : goal.returns-in-Err-clause-leaves
+returns-in-Err-clause-leaves g c = c.in-Err.ensures.leaves
+
+pub returns-in-Ok-clause-says : goal.returns-in-Ok-clause-says
+returns-in-Ok-clause-says g c = c.in-Ok.ensures.says

@@ -1,24 +1,23 @@
-use Rattle.std.proofs.Common.{sym, ap, subst, ◌∙◌, arith}
-use Rattle.swift_calls.specs.Step.{IsContainerName}
-use Rattle.account_calls.proofs.lemmas.Quiet.{asks_under}
-use Rattle.account_calls.proofs.lemmas.SideNames.{uploads_fits}
-use Rattle.leftovers.specs.Gathering.{folder_of}
-use Rattle.leftovers.specs.declared.gathering.Source.{Source}
-use Rattle.leftovers.proofs.Listings.{has_record}
-use Rattle.leftovers.proofs.Namings.{asks_room}
+use Rattle.leftovers.proofs.lemmas.Faults.{fault_at, names_as}
 use Rattle.leftovers.proofs.gathering.add_item.Goals as goal
 
-pub add_record-requires-clause-folder : goal.add_record-requires-clause-folder
-add_record-requires-clause-folder g c = subst IsContainerName (sym (c.requires.folder ∙ ap (λ (s : Source). folder_of s c.args.files.now.bucket.now) c.in-Records.is)) (uploads_fits c.args.files.now.bucket.now c.requires.bucket)
+pub returns-in-Ok-clause-asks : goal.returns-in-Ok-clause-asks
+returns-in-Ok-clause-asks g c = c.in-Ok.ensures.asks
 
-pub returns-in-Records : goal.returns-in-Records
-returns-in-Records g c = record {
-  asks = rw (c.in-Records.is) (asks_room (omega arith) (asks_under (has_record (c.requires.folder ∙ ap (λ (s : Source). folder_of s c.args.files.now.bucket.now) c.in-Records.is)) (c.add_record.ensures.asks c.args.files.now.bucket.now c.requires.bucket (c.requires.folder ∙ ap (λ (s : Source). folder_of s c.args.files.now.bucket.now) c.in-Records.is))));
-  leaves = c.add_record.ensures.leaves;
-}
+pub returns-in-Err-clause-asks : goal.returns-in-Err-clause-asks
+returns-in-Err-clause-asks g c = fault_at _ _ c.in-Err.fault c.file_fault.result c.file_fault.ensures c.in-Err.ensures.asks
 
-pub returns-in-Objects : goal.returns-in-Objects
-returns-in-Objects g c = record {
-  asks = rw (c.requires.folder ∙ ap (λ (s : Source). folder_of s c.args.files.now.bucket.now) c.in-Objects.is, c.in-Objects.is) c.add_object.ensures.asks;
-  leaves = c.add_object.ensures.leaves;
-}
+pub returns-in-Ok-clause-leaves : goal.returns-in-Ok-clause-leaves
+returns-in-Ok-clause-leaves g c = c.in-Ok.ensures.leaves
+
+pub returns-in-Err-clause-leaves : goal.returns-in-Err-clause-leaves
+returns-in-Err-clause-leaves g c = c.in-Err.ensures.leaves
+
+pub returns-in-Err-clause-names : goal.returns-in-Err-clause-names
+returns-in-Err-clause-names g c = names_as c.as_slice.ensures c.as_slice-in-Err.ensures c.in-Err.fault c.file_fault.result c.file_fault.ensures
+
+pub returns-in-Ok-clause-holds : goal.returns-in-Ok-clause-holds
+returns-in-Ok-clause-holds g c = c.in-Ok.ensures.holds
+
+pub returns-in-Ok-clause-stays : goal.returns-in-Ok-clause-stays
+returns-in-Ok-clause-stays g c = c.in-Ok.ensures.stays

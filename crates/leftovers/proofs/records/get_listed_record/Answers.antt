@@ -1,6 +1,7 @@
 use Rattle.std.proofs.Common.{refl, ◌∙◌}
 use Rattle.account_calls.proofs.lemmas.Left.{throughout_none, throughout_one}
 use Rattle.account_calls.proofs.lemmas.One.{not_asked, asked_of, asked_of_in_vain}
+use Rattle.leftovers.proofs.Held.{says_record}
 use Rattle.leftovers.proofs.RecordReads.{record_reads}
 use Rattle.leftovers.proofs.records.get_listed_record.Goals as goal
 
@@ -29,3 +30,6 @@ returns-clause-asks g c = λ bucket is of.
 
 pub returns-clause-leaves : goal.returns-clause-leaves
 returns-clause-leaves g c = throughout_one (λ tree. refl) c.in_ok-reply.ensures
+
+pub returns-clause-says : goal.returns-clause-says
+returns-clause-says g c = says_record c.in_ok-container.ensures c.in_ok-name.ensures c.in_ok-reply.ensures _ c.listed_record_in_reply.ensures.due

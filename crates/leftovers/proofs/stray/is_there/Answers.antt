@@ -1,14 +1,17 @@
-use Rattle.std.proofs.Common.{inr}
-use Rattle.account_calls.proofs.lemmas.One.{not_asked, asked_of, asked_of_in_vain}
-use Rattle.account_calls.proofs.lemmas.Left.{throughout_none, throughout_one}
-use Rattle.leftovers.proofs.Strays.{head_reads}
+use Rattle.leftovers.proofs.lemmas.Faults.{fault_at}
 use Rattle.leftovers.proofs.stray.is_there.Goals as goal
 
-pub returns-in_err-container : goal.returns-in_err-container
-returns-in_err-container g c = record { asks = not_asked _ _ _ c.from_residual.ensures.1; leaves = throughout_none (g.W.Swift.history c.args.store.now) }
+pub returns-in-Ok-clause-asks : goal.returns-in-Ok-clause-asks
+returns-in-Ok-clause-asks g c = c.in-Ok.ensures.asks
 
-pub returns-in_err-reply : goal.returns-in_err-reply
-returns-in_err-reply g c = record { asks = asked_of_in_vain (head_reads c.in_ok-container.ensures) c.in_err-reply.ensures _ c.from_residual-in_err-reply.ensures.1; leaves = throughout_one (head_reads c.in_ok-container.ensures).leaves c.in_err-reply.ensures }
+pub returns-in-Err-clause-asks : goal.returns-in-Err-clause-asks
+returns-in-Err-clause-asks g c = fault_at _ _ c.in-Err.fault c.file_fault.result c.file_fault.ensures c.in-Err.ensures.asks
 
-pub returns : goal.returns
-returns g c = record { asks = asked_of (head_reads c.in_ok-container.ensures) c.in_ok-reply.ensures _ (inr c.there_in_reply.ensures.due) c.there_in_reply.ensures.own; leaves = throughout_one (head_reads c.in_ok-container.ensures).leaves c.in_ok-reply.ensures }
+pub returns-in-Ok-clause-leaves : goal.returns-in-Ok-clause-leaves
+returns-in-Ok-clause-leaves g c = c.in-Ok.ensures.leaves
+
+pub returns-in-Err-clause-leaves : goal.returns-in-Err-clause-leaves
+returns-in-Err-clause-leaves g c = c.in-Err.ensures.leaves
+
+pub returns-in-Ok-clause-says : goal.returns-in-Ok-clause-says
+returns-in-Ok-clause-says g c = c.in-Ok.ensures.says

@@ -1,16 +1,17 @@
-use Rattle.std.proofs.Common.{inr}
-use Rattle.account_calls.proofs.lemmas.One.{not_asked}
-use Rattle.account_calls.proofs.lemmas.Quiet.{quiet_in_vain, quieted}
-use Rattle.leftovers.proofs.Strays.{removes_side}
+use Rattle.leftovers.proofs.lemmas.Faults.{fault_at}
 use Rattle.leftovers.proofs.stray.remove_side.Goals as goal
 
-pub returns-in_err-container-clause-asks : goal.returns-in_err-container-clause-asks
-returns-in_err-container-clause-asks g c = λ bucket beside. not_asked _ _ _ c.from_residual.ensures.1
+pub returns-in-Ok-clause-asks : goal.returns-in-Ok-clause-asks
+returns-in-Ok-clause-asks g c = c.in-Ok.ensures.asks
 
-pub returns-in_err-reply-clause-asks : goal.returns-in_err-reply-clause-asks
-returns-in_err-reply-clause-asks g c =
-    λ bucket beside. quiet_in_vain (removes_side c.in_ok-container.ensures bucket beside) c.in_err-reply.ensures _ c.from_residual-in_err-reply.ensures.1
+pub returns-in-Err-clause-asks : goal.returns-in-Err-clause-asks
+returns-in-Err-clause-asks g c = λ bucket beside. fault_at _ _ c.in-Err.fault c.file_fault.result c.file_fault.ensures (c.in-Err.ensures.asks bucket beside)
 
-pub returns-clause-asks : goal.returns-clause-asks
-returns-clause-asks g c =
-    λ bucket beside. quieted (removes_side c.in_ok-container.ensures bucket beside) c.in_ok-reply.ensures _ (inr c.removed_in_reply.ensures.due) c.removed_in_reply.ensures.own
+pub returns-in-Ok-clause-gone : goal.returns-in-Ok-clause-gone
+returns-in-Ok-clause-gone g c = c.in-Ok.ensures.gone
+
+pub returns-in-Ok-clause-spares : goal.returns-in-Ok-clause-spares
+returns-in-Ok-clause-spares g c = c.in-Ok.ensures.spares
+
+pub returns-in-Err-clause-spares : goal.returns-in-Err-clause-spares
+returns-in-Err-clause-spares g c = c.in-Err.ensures.spares

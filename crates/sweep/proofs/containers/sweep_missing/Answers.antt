@@ -1,16 +1,17 @@
-use Rattle.std.proofs.Common.{sym, subst}
+use Rattle.std.proofs.Common.{sym, subst, arith}
 use Rattle.swift_calls.specs.Step.{IsContainerName}
 use Rattle.upload_records.specs.Consistent.{IsBeside}
 use Rattle.sweep.proofs.Beside.{asks_err, asks_made, beside_is, folder_fits, records_cleared, segments_cleared}
-use Rattle.std.proofs.Common.{arith}
 use Rattle.sweep.proofs.Tally.{tallies_of}
+use Rattle.leftovers.specs.Faults.{as_plan}
+use Rattle.leftovers.proofs.lemmas.Faults.{plan_gives}
 use Rattle.sweep.proofs.containers.sweep_missing.Goals as goal
 
 pub sweep_stray-requires : goal.sweep_stray-requires
 sweep_stray-requires g c = record { folder = subst IsContainerName (sym c.requires.folder.2) (folder_fits c.requires.folder.0 c.requires.folder.1 c.args.kind) }
 
 pub returns-in_err-files-clause-asks : goal.returns-in_err-files-clause-asks
-returns-in_err-files-clause-asks g c = λ bucket is named. asks_err (rw (named) at (c.in_err-files.ensures.asks bucket (subst (λ f. IsBeside f bucket) (sym named) (beside_is bucket is c.args.kind)))) _ c.from_residual.ensures.1
+returns-in_err-files-clause-asks g c = λ bucket is named. asks_err (rw (named) at (c.in_err-files.ensures.asks bucket (subst (λ f. IsBeside f bucket) (sym named) (beside_is bucket is c.args.kind)))) (as_plan c.from_residual.result) (plan_gives _ _ c.from_residual.ensures.1)
 
 pub returns-in-Records-clause-asks : goal.returns-in-Records-clause-asks
 returns-in-Records-clause-asks g c = λ bucket is named.

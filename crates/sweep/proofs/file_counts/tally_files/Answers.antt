@@ -4,6 +4,8 @@ use Rattle.swift_calls.specs.Limits.{IsMarker}
 use Rattle.account_calls.proofs.lemmas.Markers.{text_is_marker}
 use Rattle.account_calls.proofs.lemmas.Left.{throughout_none, throughout_then}
 use Rattle.sweep.proofs.Tallied.{walk_end, walk_fault, walk_more, walk_none}
+use Rattle.leftovers.specs.Faults.{as_plan}
+use Rattle.leftovers.proofs.lemmas.Faults.{plan_gives}
 use Rattle.sweep.proofs.file_counts.tally_files.Goals as goal
 
 pub pages-init : goal.pages-init
@@ -14,7 +16,7 @@ pages-init g c = record {
 }
 
 pub returns-in_err-sum : goal.returns-in_err-sum
-returns-in_err-sum g c = record { asks = walk_fault c.pages.invariant.walk c.in_err-sum.ensures.asks _ c.from_residual.ensures.1; leaves = throughout_then c.pages.invariant.walk.on c.in_err-sum.ensures.asks.grows.on c.pages.invariant.leaves c.in_err-sum.ensures.leaves }
+returns-in_err-sum g c = record { asks = walk_fault c.pages.invariant.walk c.in_err-sum.ensures.asks (as_plan c.from_residual.result) (plan_gives _ _ c.from_residual.ensures.1); leaves = throughout_then c.pages.invariant.walk.on c.in_err-sum.ensures.asks.grows.on c.pages.invariant.leaves c.in_err-sum.ensures.leaves }
 
 pub pages-preserved : goal.pages-preserved
 pages-preserved g c = record {

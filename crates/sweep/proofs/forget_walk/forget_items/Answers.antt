@@ -2,8 +2,8 @@ use Rattle.std.proofs.Common.{arith}
 use Rattle.s3_names.specs.Key.{is_key}
 use Rattle.leftovers.proofs.lemmas.Touched.{at_place}
 use Rattle.sweep.proofs.AgingItems.{aging_all, aging_fault, aging_more, aging_none, fault_near}
-use Rattle.sweep.specs.Swept.{as_plan}
-use Rattle.sweep.proofs.PlanFaults.{plan_gives}
+use Rattle.leftovers.specs.Faults.{as_plan}
+use Rattle.leftovers.proofs.lemmas.Faults.{plan_gives}
 use Rattle.sweep.proofs.forget_walk.forget_items.Goals as goal
 
 pub loop-item-init : goal.loop-item-init

@@ -1,7 +1,7 @@
 use Rattle.std.proofs.Common.{arith}
 use Rattle.sweep.proofs.AgingNames.{calls_all, calls_fault, naming_all, naming_fault, naming_more, naming_none}
-use Rattle.sweep.proofs.PlanFaults.{plan_gives}
-use Rattle.sweep.specs.Swept.{as_plan}
+use Rattle.leftovers.proofs.lemmas.Faults.{plan_gives}
+use Rattle.leftovers.specs.Faults.{as_plan}
 use Rattle.sweep.proofs.forget_walk.forget_names.Goals as goal
 
 pub loop-name-init : goal.loop-name-init

@@ -6,8 +6,8 @@ use Rattle.account_calls.specs.FilePages.{next_after}
 use Rattle.account_calls.proofs.lemmas.SideNames.{uploads_fits}
 use Rattle.leftovers.proofs.lemmas.PageRead.{all_keys, as_asked, as_page, as_read, next_is_marker}
 use Rattle.sweep.proofs.AgingPage.{page_aged, page_broken, page_distinct, page_failed, page_no_memory, pays_broken_by, pays_failed, pays_no_memory, pays_page}
-use Rattle.sweep.proofs.PlanFaults.{plan_gives}
-use Rattle.sweep.specs.Swept.{as_plan}
+use Rattle.leftovers.proofs.lemmas.Faults.{plan_gives}
+use Rattle.leftovers.specs.Faults.{as_plan}
 use Rattle.sweep.proofs.forget_walk.forget_page.Goals as goal
 
 pub aging_page-requires-clause-folder : goal.aging_page-requires-clause-folder

@@ -3,8 +3,8 @@ use Rattle.std.proofs.Common.{refl, sym, subst, arith}
 use Rattle.swift_calls.specs.Limits.{IsMarker}
 use Rattle.account_calls.proofs.lemmas.Markers.{text_is_marker}
 use Rattle.sweep.proofs.AgingWalk.{calls_end, calls_fault, counted_end, walked_end, walked_fault, walked_more, walked_none}
-use Rattle.sweep.proofs.PlanFaults.{plan_gives}
-use Rattle.sweep.specs.Swept.{as_plan}
+use Rattle.leftovers.proofs.lemmas.Faults.{plan_gives}
+use Rattle.leftovers.specs.Faults.{as_plan}
 use Rattle.sweep.proofs.forget_walk.forget_records.Goals as goal
 
 pub pages-init : goal.pages-init

@@ -1,5 +1,5 @@
-use Rattle.sweep.specs.Swept.{as_plan}
-use Rattle.sweep.proofs.PlanFaults.{plan_gives}
+use Rattle.leftovers.specs.Faults.{as_plan}
+use Rattle.leftovers.proofs.lemmas.Faults.{plan_gives}
 use Rattle.sweep.proofs.SweptBefore.{forgets_fault, more_calls, swept_all, swept_calls, swept_fault}
 use Rattle.sweep.proofs.forget_walk.sweep_names_before.Goals as goal
 

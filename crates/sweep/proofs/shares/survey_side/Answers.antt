@@ -4,10 +4,12 @@ use Rattle.account_calls.proofs.lemmas.Left.{throughout_none}
 use Rattle.leftovers.specs.declared.sides.Kind.TheVariants.{Segments}
 use Rattle.sweep.proofs.Named.{told_side}
 use Rattle.sweep.proofs.NamedShares.{side_none, side_share}
+use Rattle.leftovers.specs.Faults.{as_plan}
+use Rattle.leftovers.proofs.lemmas.Faults.{plan_gives}
 use Rattle.sweep.proofs.shares.survey_side.Goals as goal
 
 pub returns-in_err-bucket : goal.returns-in_err-bucket
-returns-in_err-bucket g c = record { asks = not_asked _ _ _ c.from_residual.ensures.1; leaves = throughout_none (g.W.Swift.history c.args.store.now) }
+returns-in_err-bucket g c = record { asks = not_asked _ _ (as_plan c.from_residual.result) (plan_gives _ _ c.from_residual.ensures.1); leaves = throughout_none (g.W.Swift.history c.args.store.now) }
 
 pub survey_strays-requires-clause-bucket : goal.survey_strays-requires-clause-bucket
 survey_strays-requires-clause-bucket g c = (told_side Segments c.args.name.now c.in-Some.bucket (sym c.in_ok-bucket.ensures ∙ c.in-Some.is)).0
