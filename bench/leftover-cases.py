@@ -9,7 +9,7 @@ program. The requests are signed as bench/sign-cases.py signs them.
 """
 from case_signing import load_signing
 from case_uploads import (
-    ID, OBJECT, PLAIN, SEALED, STARTED, TELL, UPLOAD, Account, Completion, Writer, compact, md5, read_in_brief, reply, request, tag,
+    ID, OBJECT, OTHER, PLAIN, SEALED, STARTED, TELL, UPLOAD, Account, Completion, Writer, compact, md5, read_in_brief, reply, request, tag,
 )
 
 STORE = "s3gate: store"
@@ -266,13 +266,55 @@ def in_order(to):
     to.run("the store is gone from there on", "sweep --forget-before 6", STORE, account(**bucket(records=every[1:])), 4, 8, ["stop 8"])
 
 
+def entry(path, body):
+    """A segment as a PUT of a list has it."""
+    return {"etag": md5(body.encode()), "path": path, "size_bytes": len(body)}
+
+
+def lists_that_lie(to):
+    """Objects whose lists say what no list of the gateway says, and a finished upload whose object's tag hides that it lists its parts:
+    nothing is deleted, and the file at fault is named."""
+    done = Completion([(1, "hello"), (3, "world")])
+    mine = f"/photos+segments/{ID}/"
+    given, kept = [segment(ID, number, body) for number, body in done.parts], record(ID, done_record("v.bin", done.parts, STARTED, STARTED))
+    at_fault = "s3gate: inconsistent photos v.bin"
+    to.note(
+        "Lists of segments that the gateway writes for no object: a sweep and a survey take none of them, nothing is deleted, and the file",
+        "is named. So it is where a finished upload's object has a list of which a segment would go, since its tag doesn't say that it has one.",
+    )
+    for name, id_, entries, more, both in (
+        ("under another id", OTHER, [entry(f"{mine}00001", "hello"), entry(f"{mine}00003", "world")], [], True),
+        ("whose numbers fall", ID, [entry(f"{mine}00003", "world"), entry(f"{mine}00001", "hello")], [], True),
+        ("with one part twice", ID, [entry(f"{mine}00001", "hello"), entry(f"{mine}00001", "hello")], [], True),
+        ("of another container", ID, [entry(f"{mine}00001", "hello"), entry("/photos/x", "plain")], [plain("x", "plain")], True),
+        ("with a name that is cut", ID, [entry(f"{mine}0001", "hello"), entry(f"{mine}00003", "world")], [segment(ID, 1, "hello")], True),
+        ("under no id", "-", [entry(f"{mine}00001", "hello"), entry(f"{mine}00003", "world")], [], False),
+    ):
+        body = "".join({"00001": "hello", "00003": "world", "0001": "hello", "x": "plain"}[it["path"].rsplit("/", 1)[1]] for it in entries)
+        kind = tag(PLAIN, done.etag, STARTED, id_)
+        lists = md5("".join(it["etag"] for it in entries).encode())
+        objects, segments, lines = [("v.bin", (kind, [], lists, body))], dict(given), []
+        if "container" in name:
+            objects.append(more[0])
+            lines.append(f"typed photos x {more[0][1][0]} plain")
+        if "cut" in name:
+            segments[f"{ID}/0001"] = given[0][1]
+            lines.append(f"typed photos+segments {ID}/0001 {given[0][1][0]} hello")
+        put = f"manifest photos v.bin {kind} {compact(entries)}"
+        to.account(*request("PUT", "/photos", body=""), LEAST, *typed(given), *lines, put, f"file photos+uploads {ID} {kept[1][3]}")
+        stands = account(**bucket(objects=objects, records=[kept], segments=segments))
+        to.run(f"a sweep over a list {name}", "sweep", at_fault if both else f"s3gate: inconsistent photos%2Buploads {ID}", stands, 7)
+        to.run(f"a survey over a list {name}", "check", at_fault if both else counted(1, 1, 0, 1, 2), stands, 7 if both else 0)
+
+
 def what_is_none(to):
     """Accounts that no run of the gateway leaves."""
     to.note("A record that is none, and what is sealed and is none: accounts that no run of the gateway leaves.")
     to.account(*request("PUT", "/photos", body=""), f"file photos+uploads {ID} {{}}")
     stands = account(**bucket(records=[record(ID, "{}")]))
     for words in ("sweep", "check"):
-        to.run(f"{words} over a record that is none", words, None, stands, 7, None, ["unreported 1"])
+        to.run(f"{words} over a record that is none", words, f"s3gate: inconsistent photos%2Buploads {ID}", stands, 7)
+        to.run(f"{words} over a record that is none, whose report fails", words, None, stands, 7, None, ["unreported 1"])
     to.account("file +gateway sealed {}")
     to.run("a sweep over what is sealed and is none", "sweep", "s3gate: inconsistent %2Bgateway sealed", None, 7, SETTLING)
     to.run("a survey beside what is sealed and is none", "check", "s3gate: inconsistent %2Bgateway sealed", None, 7)
@@ -291,6 +333,7 @@ def main():
     sealed(to)
     ages(to)
     in_order(to)
+    lists_that_lie(to)
     what_is_none(to)
     print("\n".join(load_signing().signed(to.lines)).rstrip("\n"))
 

@@ -30,6 +30,8 @@ use Rattle.s3_machine.specs.declared.operation.ObjectsOp.TheVariants.{
   DeleteObject,
   DeleteObjects,
   GetObjectAcl,
+  PutObjectAcl,
+  GetSetting,
 }
 use Rattle.s3_machine.specs.declared.operation.UploadsOp.{UploadsOp}
 use Rattle.s3_machine.specs.declared.operation.UploadsOp.TheVariants.{ListUploads, CreateUpload, UploadPart, ListParts, CompleteUpload, AbortUpload}
@@ -37,7 +39,8 @@ use Rattle.s3_machine.specs.declared.operation.CopiesOp.{CopiesOp}
 use Rattle.s3_machine.specs.declared.operation.CopiesOp.TheVariants.{CopyObject, CopyPart}
 use Rattle.s3_machine.specs.Ops as ops
 use Rattle.s3_machine.specs.declared.operation.Reply.{Reply}
-use Rattle.s3_machine.specs.declared.operation.Reply.TheVariants.{Refused, Memory, Gone, Stored}
+use Rattle.s3_machine.specs.declared.operation.Reply.TheVariants.{Refused, Memory, Gone}
+use Rattle.s3_machine.specs.Replies.{Stored}
 use Rattle.s3_machine.specs.declared.only_if.OnlyIf.{OnlyIf}
 use Rattle.s3_machine.specs.declared.only_if.OnlyIf.TheVariants.{Always, Missing}
 use Rattle.s3_machine.specs.OnlyIf.{is_always}
@@ -220,7 +223,7 @@ deletion bucket key = ops.DeleteObject bucket key Always
 
 -- the operations on buckets and objects
 abbrev pub objects_facts : ObjectsOp → Facts
-objects_facts ListBuckets = one_step (λ tree. by_account (pages (len tree) + len (s3_state tree)))
+objects_facts (ListBuckets asked) = one_step (λ tree. by_account (pages (len tree) + len (s3_state tree)))
 objects_facts (CreateBucket made) = one_step
     (λ tree. by_account (4 + (pages (records_of tree made.bucket) + records_of tree made.bucket) + (pages (segments_of tree made.bucket) + segments_of tree made.bucket)))
 objects_facts (DeleteBucket bucket) = of_calls 1
@@ -237,6 +240,8 @@ objects_facts (DeleteObjects many) =
     record (one_step (λ tree. always (1 + length many.keys)))
     { parts = map (deletion many.bucket) many.keys; old_if_failed = false; old_if_out_of_memory = false }
 objects_facts (GetObjectAcl name) = of_calls 2
+objects_facts (PutObjectAcl set) = of_calls 2
+objects_facts (GetSetting read) = of_calls (1 + cond (is_some read.key) 1 0)
 
 -- the operations on uploads in parts
 abbrev pub uploads_facts : UploadsOp → Facts
@@ -399,6 +404,6 @@ NeverUnavailable = (settings : Settings) (h : History) (p q : ℕ) (op : Op) (la
 -- acknowledged, whatever failed. Each reply may have been lost: then it isn't acknowledged
 abbrev pub OneAcknowledged : Type 0
 OneAcknowledged = (settings : Settings) (h : History) (p t q r u s takes took : ℕ) (bucket key : List ℕ) (one other : Claim) (first second : List ℕ)
-    → Answers settings h p t q (ops.PutObject bucket key None one.content_type one.meta one.body Missing) one.label takes (Stored first)
+    → Answers settings h p t q (ops.PutObject bucket key None one.content_type one.meta one.body Missing one.checksum) one.label takes (Stored first one.checksum)
     → s3_state (h.account_at r) ≡ s3_state (h.account_at q)
-    → Answers settings h r u s (ops.PutObject bucket key None other.content_type other.meta other.body Missing) other.label took (Stored second) → ⊥
+    → Answers settings h r u s (ops.PutObject bucket key None other.content_type other.meta other.body Missing other.checksum) other.label took (Stored second other.checksum) → ⊥

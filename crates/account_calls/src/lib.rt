@@ -33,5 +33,5 @@ pub use object::{delete_object, get_object, head_object, put_object};
 pub use plans::{reply_of, stored_end};
 pub use puts::etag_of_put;
 pub use sealed::{interpret_sealed_get, object_request, sealed_object_tag, sealed_segments};
-pub use state::{Known, Settled, ask};
+pub use state::{Known, Settled, ask, ask_newest};
 pub use sub_manifests::{sub_manifest_count, sub_manifest_request};

@@ -4,8 +4,7 @@ ghost use Rattle.s3_machine.specs.declared.operation.Reply.TheVariants.{Stored};
 ghost use Rattle.account_calls.specs.Plan.{ended, reply_of};
 
 use crate::PlanFault;
-use gate_base::Bytes;
-use s3_machine::{Code, Reply};
+use s3_machine::{Code, Reply, StoredBytes};
 
 /// The reply to an operation by the end of its plan.
 pub fn reply_of(end: Result<Reply, PlanFault>) -> Reply
@@ -19,12 +18,12 @@ pub fn reply_of(end: Result<Reply, PlanFault>) -> Reply
     }
 }
 
-/// The end of a plan whose last call put what has this ETag: the reply was made before it.
-pub fn stored_end(end: Result<(), PlanFault>, etag: Bytes) -> Result<Reply, PlanFault>
-    ensures { result ≡ ended end (λ done. Stored etag) }
+/// The end of a plan whose last call put what has this ETag, and of which this checksum was compared: the reply was made before it.
+pub fn stored_end(end: Result<(), PlanFault>, stored: StoredBytes) -> Result<Reply, PlanFault>
+    ensures { result ≡ ended end (λ done. Stored stored) }
 {
     match end {
-        Ok(()) => Ok(Reply::Stored(etag)),
+        Ok(()) => Ok(Reply::Stored(stored)),
         Err(fault) => Err(fault),
     }
 }

@@ -4,7 +4,7 @@ ghost use Rattle.http_wire.specs.Print.{IsReplyStatus};
 
 use crate::play::First;
 use case_text::{
-    Fault, Given, Told, begins_reply, given_connections, given_keys, given_moments,
+    Fault, Given, Told, begins_reply, copy_of_bytes, given_connections, given_keys, given_moments,
     given_text_behind, has_failing_call, has_given_line, reply_of_pieces, tell_bytes_by_lines,
 };
 use case_verbs::{
@@ -16,7 +16,7 @@ use http_wire::{Message, print_page};
 use s3_machine::{Label, Op, Reply, Settings};
 use s3_names::Target;
 use s3_native::Native;
-use s3_pages::page;
+use s3_pages::{PageContext, page};
 use s3_requests::{Meant, meaning};
 use sigv4::{Keys, SignedRequest, verify};
 use std::alloc::Global;
@@ -281,7 +281,8 @@ fn page_of_machine_reply(
     told: &mut Told,
 ) -> Option<Page> {
     if is_shown_reply(&reply) {
-        told.keep_made(page(alloc, reply, label, resource))
+        let context = PageContext::strict(copy_of_bytes(alloc, resource, told));
+        told.keep_made(page(alloc, reply, label, &context))
     } else {
         drop(reply);
         told.note_fault(Fault::Unread("a reply without a page"));

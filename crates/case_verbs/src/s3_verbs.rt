@@ -142,6 +142,7 @@ fn tell_other_acl(text: &str, told: &mut Told) {
 pub(crate) fn caller_of_word(word: &str, told: &mut Told) -> Caller {
     match word {
         "owner" => Caller::Owner,
+        "reader" => Caller::Reader,
         "anonymous" => Caller::Anonymous,
         _ => {
             told.note_fault(Fault::Unread("no caller"));

@@ -1,7 +1,9 @@
 //! The pages of replies that cases give. What a reply bears stands in fields `name: value`. Each field `item` of one that lists
 //! has four words, of which the last may have spaces: `MOMENT NUMBER WORD TEXT`. Of a bucket they are `CREATED 0 - NAME`; of an
 //! object `MODIFIED SIZE ETAG KEY`, and of a common prefix `0 0 - PREFIX`; of an upload `STARTED ID - KEY`; of a part
-//! `MODIFIED SIZE NUMBER ETAG`. Each field `key` of a deletion is one of its keys.
+//! `MODIFIED SIZE NUMBER ETAG`. Each field `key` of a deletion is one of its keys. Each field `shown` of an object is a header that is
+//! shown, `NAME VALUE`, and `checksum` of what was stored likewise. The field `page-region` makes the page one of the extended profile, of that region, and
+//! `heads-bucket` says that the request was a HEAD of a bucket.
 ghost use Rattle.std.specs.Prelude.{◌≢◌};
 ghost use Rattle.s3_machine.specs.Shown.{IsShowable};
 
@@ -12,21 +14,26 @@ use case_text::{Fault, Told, copy_of_bytes, cut_text, number_of_text, tell_value
 use gate_base::{Bytes, Caller, List, Pair, cut, drop};
 use http_wire::{Message, first_value, has_header};
 use s3_machine::{
-    Asked, BucketItem, Code, CompletedObject, CopiedBytes, DeletedKeys, Item, ItemHead, Label,
-    ObjectBytes, ObjectHead, ObjectPage, ObjectsReply, PartItem, PartPage, PartsAsked, Reply,
-    StartedUpload, UploadItem, UploadPage, UploadsAsked, UploadsReply,
+    Asked, BucketItem, BucketListing, BucketPage, Code, CompletedObject, CopiedBytes, DeletedKeys,
+    Item, ItemHead, Label, ObjectBytes, ObjectHead, ObjectPage, ObjectsReply, PartItem, PartPage,
+    PartsAsked, Reply, StartedUpload, StoredBytes, UnsetCode, UnsetPage, UploadItem, UploadPage,
+    UploadsAsked, UploadsReply,
 };
 use s3_names::{Key, Meta};
-use s3_pages::page;
+use s3_pages::{ExtendedPage, PageContext, page};
 use std::alloc::Global;
+use std::fmt::Debug;
 
-const CODES: [Code; 34] = [
+/// The codes but for InvalidRange and those that say that a setting isn't set.
+const CODES: [Code; 41] = [
+    Code::AccessControlListNotSupported,
     Code::AccessDenied,
     Code::AuthorizationHeaderMalformed,
     Code::AuthorizationQueryParametersError,
     Code::BadDigest,
     Code::BucketAlreadyOwnedByYou,
     Code::BucketNotEmpty,
+    Code::ChecksumDiffers,
     Code::EntityTooLarge,
     Code::EntityTooSmall,
     Code::IncompleteBody,
@@ -34,12 +41,14 @@ const CODES: [Code; 34] = [
     Code::InvalidAccessKeyId,
     Code::InvalidArgument,
     Code::InvalidBucketName,
+    Code::InvalidChunkSizeError,
     Code::InvalidDigest,
     Code::InvalidPart,
+    Code::InvalidPartNumber,
     Code::InvalidPartOrder,
-    Code::InvalidRange,
     Code::InvalidRequest,
     Code::InvalidStorageClass,
+    Code::InvalidToken,
     Code::InvalidURI,
     Code::KeyTooLongError,
     Code::MalformedXML,
@@ -50,11 +59,28 @@ const CODES: [Code; 34] = [
     Code::NoSuchKey,
     Code::NoSuchUpload,
     Code::NotImplemented,
+    Code::OnlyVersionFour,
     Code::PreconditionFailed,
+    Code::RequestExpired,
     Code::RequestTimeTooSkewed,
+    Code::RequestTimeout,
     Code::ServiceUnavailable,
     Code::SignatureDoesNotMatch,
     Code::XAmzContentSHA256Mismatch,
+];
+
+const UNSET_CODES: [UnsetCode; 11] = [
+    UnsetCode::NoSuchBucketPolicy,
+    UnsetCode::NoSuchCORSConfiguration,
+    UnsetCode::NoSuchLifecycleConfiguration,
+    UnsetCode::ServerSideEncryptionConfigurationNotFoundError,
+    UnsetCode::NoSuchTagSet,
+    UnsetCode::NoSuchWebsiteConfiguration,
+    UnsetCode::ReplicationConfigurationNotFoundError,
+    UnsetCode::NoSuchPublicAccessBlockConfiguration,
+    UnsetCode::ObjectLockConfigurationNotFoundError,
+    UnsetCode::OwnershipControlsNotFoundError,
+    UnsetCode::NoSuchObjectLockConfiguration,
 ];
 
 /// `REPLY MOMENT ID` tells the page of a reply, at that moment and to the request of that number. What the reply bears stands
@@ -82,9 +108,9 @@ fn tell_page_of_fields(
 ) {
     let fields = message.headers.as_slice();
     let reply = reply_of_fields(alloc, name, fields, &message.body, told);
-    let resource = first_value(fields, b"resource");
+    let context = page_context_of_fields(alloc, fields, told);
     if is_shown_reply(&reply) {
-        tell_page_of_shown_reply(alloc, reply, label, resource, told);
+        tell_page_of_shown_reply(alloc, reply, label, &context, told);
     } else {
         drop(reply);
         told.note_fault(Fault::Unread("a reply without a page"));
@@ -96,15 +122,37 @@ fn tell_page_of_shown_reply(
     alloc: Global,
     reply: Reply,
     label: &Label,
-    resource: &[u8],
+    context: &PageContext,
     told: &mut Told,
 )
     requires reply { reply ≢ Reply.Memory }
     requires showable { IsShowable reply }
 {
-    if let Some(page) = told.keep_made(page(alloc, reply, label, resource)) {
+    if let Some(page) = told.keep_made(page(alloc, reply, label, context)) {
         tell_value(&page, told);
     }
+}
+
+/// What the fields say beside the reply.
+fn page_context_of_fields(alloc: Global, fields: &[Pair], told: &mut Told) -> PageContext {
+    PageContext {
+        resource: bytes_in_verb_field(alloc, fields, b"resource", told),
+        extended: extended_page_of_fields(alloc, fields, told),
+    }
+}
+
+fn extended_page_of_fields(
+    alloc: Global,
+    fields: &[Pair],
+    told: &mut Told,
+) -> Option<ExtendedPage> {
+    if !has_header(fields, b"page-region") {
+        return None;
+    }
+    Some(ExtendedPage {
+        region: bytes_in_verb_field(alloc, fields, b"page-region", told),
+        heads_bucket: is_verb_field_yes(fields, b"heads-bucket"),
+    })
 }
 
 /// The reply of that name, with what the fields say.
@@ -122,10 +170,7 @@ fn reply_of_fields(
         "refused" => Reply::Refused(code_of_fields(alloc, fields, told)),
         "not-modified" => Reply::NotModified(object_head_of_fields(alloc, fields, told)),
         "object" => object_reply_of_fields(alloc, fields, body, told),
-        "buckets" => {
-            let items = items_of_fields(alloc, fields, told);
-            Reply::OfObjects(ObjectsReply::Buckets(items))
-        }
+        "buckets" => buckets_reply_of_fields(alloc, fields, told),
         "objects" => objects_reply_of_fields(alloc, fields, told),
         "uploads" => uploads_reply_of_fields(alloc, fields, told),
         "parts" => parts_reply_of_fields(alloc, fields, told),
@@ -145,7 +190,14 @@ fn short_reply_of_fields(alloc: Global, name: &str, fields: &[Pair], told: &mut 
             let bucket = bytes_in_verb_field(alloc, fields, b"bucket", told);
             Reply::OfObjects(ObjectsReply::Made(bucket))
         }
-        "stored" => Reply::Stored(bytes_in_verb_field(alloc, fields, b"etag", told)),
+        "stored" => Reply::Stored(StoredBytes {
+            etag: bytes_in_verb_field(alloc, fields, b"etag", told),
+            checksum: pair_in_verb_field(alloc, fields, b"checksum", told),
+        }),
+        "setting" => Reply::OfObjects(ObjectsReply::Setting(UnsetPage {
+            root: bytes_in_verb_field(alloc, fields, b"root", told),
+            inside: bytes_in_verb_field(alloc, fields, b"inside", told),
+        })),
         "location" => {
             let region = bytes_in_verb_field(alloc, fields, b"region", told);
             Reply::OfObjects(ObjectsReply::Location(region))
@@ -176,7 +228,65 @@ fn object_reply_of_fields(alloc: Global, fields: &[Pair], body: &Bytes, told: &m
         length: number_in_verb_field(fields, b"length", told),
         partial: is_verb_field_yes(fields, b"partial"),
         body: copy_of_bytes(alloc, body.as_slice(), told),
+        shown: pairs_in_verb_fields(alloc, fields, b"shown", told),
+        parts: if has_header(fields, b"parts") {
+            Some(small_number_in_verb_field(fields, b"parts", told))
+        } else {
+            None
+        },
     })
+}
+
+/// The pair `NAME VALUE` of a field.
+fn pair_of_words(alloc: Global, text: &[u8], told: &mut Told) -> Pair {
+    let (name, value) = cut(text, b' ');
+    Pair {
+        name: copy_of_bytes(alloc, name, told),
+        value: copy_of_bytes(alloc, value, told),
+    }
+}
+
+/// The pair of the field of that name, if there is one.
+fn pair_in_verb_field(
+    alloc: Global,
+    fields: &[Pair],
+    name: &[u8],
+    told: &mut Told,
+) -> Option<Pair> {
+    if has_header(fields, name) {
+        Some(pair_of_words(alloc, first_value(fields, name), told))
+    } else {
+        None
+    }
+}
+
+/// The pairs of the fields of that name, in their order.
+fn pairs_in_verb_fields(
+    alloc: Global,
+    fields: &[Pair],
+    name: &[u8],
+    told: &mut Told,
+) -> List<Pair> {
+    let mut pairs = List::new(alloc);
+    for field in fields {
+        if field.name.as_slice() == name {
+            let pair = pair_of_words(alloc, field.value.as_slice(), told);
+            told.push(&mut pairs, pair);
+        }
+    }
+    pairs
+}
+
+fn buckets_reply_of_fields(alloc: Global, fields: &[Pair], told: &mut Told) -> Reply {
+    Reply::OfObjects(ObjectsReply::Buckets(BucketPage {
+        asked: BucketListing {
+            prefix: bytes_in_verb_field(alloc, fields, b"prefix", told),
+            token: token_of_fields(alloc, fields, told),
+            max: None,
+        },
+        items: items_of_fields(alloc, fields, told),
+        truncated: is_verb_field_yes(fields, b"truncated"),
+    }))
 }
 
 fn object_head_of_fields(alloc: Global, fields: &[Pair], told: &mut Told) -> ObjectHead {
@@ -202,21 +312,37 @@ fn metadata_of_fields(alloc: Global, fields: &[Pair], told: &mut Told) -> Meta {
     meta
 }
 
-/// The code of that name.
+/// The code of that name; of InvalidRange with the size of the object, where a field gives it.
 fn code_of_fields(alloc: Global, fields: &[Pair], told: &mut Told) -> Code {
     let name = text_in_verb_field(fields, b"code", told);
+    if name == "InvalidRange" {
+        return Code::InvalidRange(size_of_range_field(fields, told));
+    }
     for code in &CODES {
-        if is_code_named(alloc, code, name) {
+        if is_named(alloc, code, name) {
             return *code;
+        }
+    }
+    for code in &UNSET_CODES {
+        if is_named(alloc, code, name) {
+            return Code::NotSet(*code);
         }
     }
     told.note_fault(Fault::Unread("no such code"));
     Code::AccessDenied
 }
 
-fn is_code_named(alloc: Global, code: &Code, name: &str) -> bool {
+fn size_of_range_field(fields: &[Pair], told: &mut Told) -> Option<u64> {
+    if has_header(fields, b"size") {
+        Some(number_in_verb_field(fields, b"size", told))
+    } else {
+        None
+    }
+}
+
+fn is_named<T: Debug>(alloc: Global, value: &T, name: &str) -> bool {
     let mut told = Told::new(alloc);
-    told.say_value(code);
+    told.say_value(value);
     told.text() == name
 }
 
@@ -333,6 +459,7 @@ fn asked_of_fields(alloc: Global, fields: &[Pair], told: &mut Told) -> Asked {
         max: small_number_in_verb_field(fields, b"max", told),
         url: is_verb_field_yes(fields, b"url"),
         owner: is_verb_field_yes(fields, b"owner"),
+        versions: is_verb_field_yes(fields, b"versions"),
     }
 }
 

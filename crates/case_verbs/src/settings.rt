@@ -21,10 +21,9 @@ pub fn settings_of_region(
     extended: bool,
     told: &mut Told,
 ) -> Option<Settings> {
+    let region = copy_of_bytes(alloc, region, told);
     Some(Settings {
-        region: copy_of_bytes(alloc, region, told),
-        least_part,
-        largest_body,
         extended,
+        ..Settings::strict(region, least_part, largest_body)
     })
 }

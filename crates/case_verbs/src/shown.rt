@@ -74,8 +74,8 @@ fn is_shown_objects_reply(reply: &ObjectsReply) -> bool
 {
     match reply {
         ObjectsReply::Made(_) | ObjectsReply::Location(_) => true,
-        ObjectsReply::AclOf(_) | ObjectsReply::Deleted(_) => true,
-        ObjectsReply::Buckets(items) => are_shown_buckets(items.as_slice()),
+        ObjectsReply::AclOf(_) | ObjectsReply::Deleted(_) | ObjectsReply::Setting(_) => true,
+        ObjectsReply::Buckets(page) => are_shown_buckets(page.items.as_slice()),
         ObjectsReply::Objects(page) => are_shown_items(page.items.as_slice()),
     }
 }

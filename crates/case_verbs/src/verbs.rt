@@ -26,6 +26,7 @@ fn tell_http_verb(alloc: Global, verb: &str, text: &str, given: &[u8], told: &mu
         "front" => fronts::tell_first_front(alloc, text, given, told),
         "page" => pages::tell_printed_page(alloc, text, given, told),
         "memory" => pages::tell_memory_reply(alloc, text, told),
+        "slow" => pages::tell_slow_reply(alloc, told),
         _ => tell_signature_verb(alloc, verb, text, given, told),
     }
 }

@@ -1,6 +1,6 @@
 -- A message whose body comes in chunks, opened: who sent it, and the message with its data in place of its body. Source: Amazon S3
 -- API Reference, as in `Chunks`; the order of the refusals is this profile's.
-use Rattle.std.specs.Prelude.{◌≡◌, ◌≢◌, ℕ, true, false, if◌then◌else◌, List, [], replicate, Option, Some, None, Result, Ok, Err}
+use Rattle.std.specs.Prelude.{◌≡◌, ◌≢◌, ℕ, true, if◌then◌else◌, List, [], replicate, Option, Some, None, Result, Ok, Err}
 use Rattle.gate_base.specs.declared.caller.Caller.{Caller}
 use Rattle.gate_base.specs.declared.caller.Caller.TheVariants.{Owner, Anonymous}
 use Rattle.s3_names.specs.declared.target.Target.{Target}

@@ -232,16 +232,16 @@ ready_of settings op label old new was now (Pieces found) known (is, reads) = (
 -- ---- the bytes that a read asks for are still to be got
 
 pub objects_read_none : {op : Op} {asked : ObjectsOp} → op ≡ op_as.OnObjects asked → ReadsBytes op → ⊥
-objects_read_none {asked = asked} is (bucket, key, range, conditions, reads) = let no : op_as.OnObjects asked ≡ GetObject bucket key range conditions = sym is ∙ reads in cc
+objects_read_none {asked = asked} is (bucket, key, range, conditions, part, shown, reads) = let no : op_as.OnObjects asked ≡ GetObject bucket key range conditions part shown = sym is ∙ reads in cc
 
 pub uploads_read_none : {op : Op} {asked : UploadsOp} → op ≡ op_as.OnUploads asked → ReadsBytes op → ⊥
-uploads_read_none {asked = asked} is (bucket, key, range, conditions, reads) = let no : op_as.OnUploads asked ≡ GetObject bucket key range conditions = sym is ∙ reads in cc
+uploads_read_none {asked = asked} is (bucket, key, range, conditions, part, shown, reads) = let no : op_as.OnUploads asked ≡ GetObject bucket key range conditions part shown = sym is ∙ reads in cc
 
 pub copies_read_none : {op : Op} {asked : CopiesOp} → op ≡ op_as.OnCopies asked → ReadsBytes op → ⊥
-copies_read_none {asked = asked} is (bucket, key, range, conditions, reads) = let no : op_as.OnCopies asked ≡ GetObject bucket key range conditions = sym is ∙ reads in cc
+copies_read_none {asked = asked} is (bucket, key, range, conditions, part, shown, reads) = let no : op_as.OnCopies asked ≡ GetObject bucket key range conditions part shown = sym is ∙ reads in cc
 
 pub asks_reads : (means : Meant) (op : Op) → means ≡ meant.Op op → AsksBytes means → ReadsBytes op
-asks_reads means op is (bucket, key, range, conditions, asks) = (bucket, key, range, conditions, let same : meant.Op op ≡ meant.Op (GetObject bucket key range conditions) = sym is ∙ asks in cc)
+asks_reads means op is (bucket, key, range, conditions, part, shown, asks) = (bucket, key, range, conditions, part, shown, let same : meant.Op op ≡ meant.Op (GetObject bucket key range conditions part shown) = sym is ∙ asks in cc)
 
 pub unsettled_leaves : (fault : SettleFault) → LeavesBytes (Whole (fault_reply fault))
 unsettled_leaves Failed = refl

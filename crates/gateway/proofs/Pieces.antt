@@ -11,7 +11,8 @@ use Rattle.gate_base.specs.Transcript.{Transcript, with_piece, SendsPrefix}
 use Rattle.http_wire.specs.FirstMessage.{is_head}
 use Rattle.http_wire.specs.Print.{is_bodiless, is_printed_content_length, status_line, header_line, closing_line}
 use Rattle.s3_machine.specs.declared.operation.Label.{Label}
-use Rattle.s3_pages.specs.Pages.{header, object_headers, object_page, common_headers, head_headers, meta_header, range_headers, read_status}
+use Rattle.s3_machine.specs.declared.operation.ObjectBytes.{ObjectBytes}
+use Rattle.s3_pages.specs.Pages.{header, object_headers, object_page, common_headers, head_headers, meta_header, overlaid, parts_headers, range_headers, read_status}
 use Rattle.planner.specs.declared.reading.Found.{Found}
 use Rattle.planner.specs.Reading.{found_reply}
 use Rattle.gateway.specs.Exchange.{IsPiece, joined, Paced, Sends, SendsPart, SendsPieces}
@@ -210,15 +211,18 @@ any_behind (first ∷ front) back is = ap (λ t. is_printed_content_length first
     or_true false = refl
 
 module _ (found : Found) (label : Label) (method resource : List ℕ) (closing : Bool) (other : is_head method ≡ false) where
+  abbrev object : List ℕ → ObjectBytes
+  object body = record { head = found.head; from = found.from; length = found.length; partial = found.partial; body = body; shown = found.shown; parts = found.parts }
+
   abbrev headers : List Pair
-  headers = object_headers found.head found.from found.length found.partial label
+  headers = object_headers (object []) label
 
   abbrev page : List ℕ → Page
-  page body = object_page found.head found.from found.length found.partial body label
+  page body = object_page (object body) label
 
   length_given : list_any is_printed_content_length headers ≡ true
   length_given =
-      let front : List Pair = common_headers label ++ head_headers found.head ++ map meta_header found.head.meta ++ range_headers found.partial found.from found.length found.head.size in
+      let front : List Pair = common_headers label ++ overlaid found.shown (head_headers found.head ++ map meta_header found.head.meta) ++ range_headers found.partial found.from found.length found.head.size ++ parts_headers found.parts in
       any_behind front (header (codes "Content-Length") (decimal found.length) ∷ []) refl
 
   no_length : (partial : Bool) (line : List ℕ) → (if is_bodiless (read_status partial) || list_any is_printed_content_length headers then [] else line) ≡ []

@@ -99,6 +99,12 @@ is_span_still h was asked = record { from = refl; settles = omega arith; first =
 pub code_meant : (request : Request) (means : Meant) (code : Code) → means ≡ meant.Refused code → Understands means request → request.means ≡ meant.Refused code
 code_meant request means code e understands = sym (understands.same (λ m. (let no : meant.Refused code ≡ meant.Memory = sym e ∙ m in cc))) ∙ e
 
+-- what the code holds is as proper as what the request means
+pub understood_proper : (means : Meant) (request : Request) → Understands means request → IsProperMeant means
+understood_proper (meant.Op op) request understands = subst IsProperMeant (sym (understands.same (λ e. cc))) understands.proper
+understood_proper (meant.Refused code) request understands = subst IsProperMeant (sym (understands.same (λ e. cc))) understands.proper
+understood_proper meant.Memory request understands = tt
+
 -- a request that has a code of its own
 module _ (settings : Settings) (h : History) (was : Known) (request : Request) (label : Label) where
   by_code : (all : Bool) {code : Code} → request.means ≡ meant.Refused code → IsProperCode code → Where all (Met (IsKnown was) h)

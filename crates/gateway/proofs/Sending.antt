@@ -63,7 +63,7 @@ Responds R connection old new request label sent sent' (Parted end) = (span : Sp
 -- a reply that gives no bytes of an object is none with a body of it
 not_paced : (connection t q : ℕ) (means : Meant) (given reply : Reply) (bytes : List ℕ) (sent sent' : List Piece) → given ≡ reply → (AsksBytes means → gives_bytes given ≡ false)
     → ReadIsPaced connection t q means reply bytes sent sent'
-not_paced connection t q means given reply bytes sent sent' same bare body asks (head, from, length, partial, has) =
+not_paced connection t q means given reply bytes sent sent' same bare body asks (head, from, length, partial, shown, parts, has) =
     absurd (let no : true ≡ false = sym (ap gives_bytes (same ∙ has)) ∙ bare asks in cc)
 
 module _ {R : ReplyRelation} (old new : StoreCursor) (transcript transcript' : Transcript) (request : Request) (label : Label) (given : Reply) (replied : RepliesExpected R old new request label given)
@@ -139,11 +139,11 @@ pub record RepliesRead (R : ReplyRelation) (old new : StoreCursor) (early : ℕ)
 
 -- an operation that reads asks nothing of the account beside the state
 beside_read : (op : Op) (found : Found) (label : Label) (h : History) (p q : ℕ) (reply : Reply) → IsReadBy op found → SaysBeside (beside_of op) label h p q reply
-beside_read op found label h p q reply reads = subst (λ o. SaysBeside (beside_of o) label h p q reply) (sym reads.2) tt
+beside_read op found label h p q reply reads = subst (λ o. SaysBeside (beside_of o) label h p q reply) (sym reads.3) tt
 
 -- it reads the object that was found
 reads_bytes : (op : Op) (found : Found) → IsReadBy op found → ReadsBytes op
-reads_bytes op found (range, conditions, is) = (found.bucket, found.key, range, conditions, is)
+reads_bytes op found (range, conditions, part, is) = (found.bucket, found.key, range, conditions, part, found.shown, is)
 
 -- a reply to a read behind which the store is known to be settled has its cause
 caused_by : (old new : StoreCursor) (op : Op) (reply : Reply) → ReadsBytes op → new.known ≡ known.Settled → IsWithinShown (most_refused op reply) old.number new.number
@@ -284,9 +284,9 @@ breaks_off found fault.Memory = refl
 breaks_off found fault.Inconsistent = refl
 
 reads_object : (op : Op) (found : Found) (f : PlanFault) → IsReadBy op found → ReadsObject (meant.Op op) (ended_by found f)
-reads_object op found f reads = subst (λ o. ReadsObject (meant.Op o) (ended_by found f)) (sym reads.2) (by f)
+reads_object op found f reads = subst (λ o. ReadsObject (meant.Op o) (ended_by found f)) (sym reads.3) (by f)
   where
-    by : (f : PlanFault) → ReadsObject (meant.Op (GetObject found.bucket found.key reads.0 reads.1)) (ended_by found f)
+    by : (f : PlanFault) → ReadsObject (meant.Op (GetObject found.bucket found.key reads.0 reads.1 reads.2 found.shown)) (ended_by found f)
     by fault.Failed = tt
     by fault.Memory = tt
     by fault.Inconsistent = (refl, refl)
@@ -305,7 +305,7 @@ body_of reply = []
 -- an object was sent as its bytes came
 is_paced : (connection t q : ℕ) (means : Meant) (found : Found) (head body bytes : List ℕ) (sent sent' : List Piece) → bytes ≡ head ++ body → SendsPieces connection t q head body sent sent'
     → ReadIsPaced connection t q means (found_reply found body) bytes sent sent'
-is_paced connection t q means found head body bytes sent sent' whole sends body' asks (head', from, length, partial, has) =
+is_paced connection t q means found head body bytes sent sent' whole sends body' asks (head', from, length, partial, shown, parts, has) =
     let same : body ≡ body' = ap body_of has in
     (head, whole ∙ ap (λ b. head ++ b) same, subst (λ b. SendsPieces connection t q head b sent sent') same sends)
 
@@ -425,7 +425,7 @@ module _ {settings : Settings} {op : Op} {label : Label} {found : Found} {old he
             head = head;
             part = so_far.done;
             unsent = replies.rest;
-            read = (found.head, found.from, found.length, found.partial, refl);
+            read = (found.head, found.from, found.length, found.partial, found.shown, found.parts, refl);
             due = text (so_far.done ++ replies.rest);
             some_left = λ none. absurd (let whole = replies.sized in omega (arith, left, length_is, whole, length-append so_far.done replies.rest, ap length none));
             sends = pieces_behind head line.transcript then.transcript replies.soon wrote line'.transcript.sent (so_far.sent seen) near;

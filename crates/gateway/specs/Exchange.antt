@@ -2,6 +2,7 @@
 use Rattle.std.specs.Prelude.{◌≡◌, ◌≢◌, ◌⊎◌, ◌≤◌, ℕ, ◌+◌, Bool, true, false, IsTrue, List, [], ◌∷◌, ◌++◌, length, All, flat_map, Option, Some, None}
 use Rattle.gate_base.specs.Causes.{Rose}
 use Rattle.gate_base.specs.declared.outside.Piece.{Piece}
+use Rattle.gate_base.specs.declared.page.Pair.{Pair}
 use Rattle.s3_machine.specs.declared.code.Code.{Code}
 use Rattle.s3_machine.specs.declared.code.Code.TheVariants.{ServiceUnavailable, InconsistentStore}
 use Rattle.s3_machine.specs.declared.operation.Label.{Label}
@@ -200,11 +201,13 @@ pub record SendsPart (connection t q : ℕ) (bytes : List ℕ) (old new : List P
 
 -- the request reads an object
 abbrev pub AsksBytes : Meant → Type 0
-AsksBytes means = (bucket : List ℕ) × (key : List ℕ) × (range : Option Range) × (conditions : Conditions) × (means ≡ meant.Op (op.GetObject bucket key range conditions))
+AsksBytes means = (bucket : List ℕ) × (key : List ℕ) × (range : Option Range) × (conditions : Conditions) × (part : Option ℕ) × (shown : List Pair)
+    × (means ≡ meant.Op (op.GetObject bucket key range conditions part shown))
 
 -- the reply has these bytes as its body
 abbrev pub IsRead : Reply → List ℕ → Type 0
-IsRead reply body = (head : ObjectHead) × (from : ℕ) × (length : ℕ) × (partial : Bool) × (reply ≡ Object head from length partial body)
+IsRead reply body = (head : ObjectHead) × (from : ℕ) × (length : ℕ) × (partial : Bool) × (shown : List Pair) × (parts : Option ℕ)
+    × (reply ≡ Object head from length partial body shown parts)
 
 -- pieces of a body, one for each number of calls from n on, each of at most 1 MiB
 unfoldable pub Paced : ℕ → List Piece → Type 0

@@ -20,7 +20,7 @@ use Rattle.http_wire.specs.declared.message.Kind.{Kind}
 use Rattle.http_wire.specs.declared.message.Kind.TheVariants.{BadHead, LongHead, ManyHeaders, NoLength, BadLength, LongBody, Transfer, ShortBody}
 use Rattle.http_wire.specs.Closing.{is_closing}
 use Rattle.http_wire.specs.Print.{page_text}
-use Rattle.s3_pages.specs.Pages.{page_of}
+use Rattle.s3_pages.specs.Pages.{page_of, strict_context}
 use Rattle.sigv4.specs.declared.refusal.Refusal.{Refusal}
 use Rattle.sigv4.specs.Verdict.{caller_or_refusal}
 use Rattle.presign.specs.Parameters.{is_presigned, without_signature}
@@ -196,7 +196,7 @@ end_of (received.Refused kind place head) = Some (Refused kind place)
 
 -- the bytes of a reply
 unfoldable pub reply_text : Reply → Label → List ℕ → List ℕ → Bool → List ℕ
-reply_text reply label method resource closing = page_text (page_of reply label resource) method closing
+reply_text reply label method resource closing = page_text (page_of reply label (strict_context resource)) method closing
 
 -- those that answer a request
 abbrev pub print : Reply → Label → Request → List ℕ

@@ -1,4 +1,6 @@
 ghost use Rattle.std.specs.Prelude.{◌≡◌, ◌<◌, Err, IsTrue};
+ghost use Rattle.s3_machine.specs.Parts.{AsksNoPart};
+ghost use Rattle.s3_requests.specs.Proper.{IsProperMeant};
 ghost use Rattle.swift_calls.specs.History.{present};
 ghost use Rattle.upload_records.specs.Native.{IsSettled};
 ghost use Rattle.account_calls.specs.Lent.{Stays};
@@ -36,6 +38,7 @@ pub fn reply_to<W: Swift>(
     label: &Label,
 ) -> Reading
     requires knows { Knows known.old (W.history store.old) }
+    requires proper { IsProperMeant means }
     ensures ready { IsReady (W.history store.new) result }
     ensures replied { RepliedOrReads settings.now means label.now (W.history store.old)
         (W.history store.new) known.old known.new result }
@@ -61,6 +64,7 @@ fn settle_and_perform<W: Swift>(
     label: &Label,
 ) -> Reading
     requires knows { Knows known.old (W.history store.old) }
+    requires planned { AsksNoPart op }
     ensures operated { OperatedOrReads settings.now op label.now (W.history store.old)
         (W.history store.new) known.old known.new result }
     ensures leaves { ReadsBytes op → LeavesBytes result }
@@ -98,6 +102,7 @@ fn perform_on_settled_store<W: Swift>(
     op: Op,
     label: &Label,
 ) -> Performed
+    requires planned { AsksNoPart op }
     requires settled { IsTrue (W.history store.old).observable
         → IsSettled (present (W.history store.old)) }
     ensures performs { PerformsOrFinds (W.history store.old) (W.history store.new) settings.now op
@@ -111,6 +116,7 @@ fn perform_on_settled_store<W: Swift>(
 
 /// The same, of the store as it is held.
 fn perform<W: Swift>(state: &mut Settled<'_, W>, op: Op, label: &Label) -> Performed
+    requires planned { AsksNoPart op }
     ensures stays { Stays state.old state.new }
     ensures performs { PerformsOrFinds (W.history state.old.store.now)
         (W.history state.new.store.now) state.old.settings.now op label.now result.known

@@ -178,12 +178,15 @@ fn print_head(
         return Err(Memory);
     }
     let head = found.head.copy()?;
+    let shown = found.shown.copy()?;
     let reply = Reply::Object(ObjectBytes {
         head,
         from: found.from,
         length: found.length,
         partial: found.partial,
         body: Bytes::new(alloc),
+        shown,
+        parts: found.parts,
     });
     print_reply(alloc, reply, context, closing)
 }

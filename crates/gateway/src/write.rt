@@ -4,14 +4,15 @@ ghost use Rattle.gate_base.specs.Line.{OnlyWrites};
 ghost use Rattle.http_wire.specs.Print.{memory_reply};
 ghost use Rattle.s3_machine.specs.declared.operation.Reply.TheVariants as answer;
 ghost use Rattle.s3_machine.specs.Shown.{IsShowable};
+ghost use Rattle.s3_pages.specs.Pages.{page_of, strict_context};
 ghost use Rattle.gateway.specs.declared.write.Written.TheVariants as written;
 ghost use Rattle.gateway.specs.Request.{reply_text};
 ghost use Rattle.gateway.specs.Write.{WritesReply, WritesOutOfMemory, is_failed_write};
 
-use gate_base::{Bytes, Line, Memory};
+use gate_base::{Bytes, Line, Memory, Page, drop};
 use http_wire::{print_memory, print_page};
 use s3_machine::{Label, Reply};
-use s3_pages::page;
+use s3_pages::{PageContext, page};
 use std::alloc::Global;
 use swift_calls::Swift;
 
@@ -105,7 +106,26 @@ pub fn print_reply(
     if let Reply::Memory = reply {
         return Err(Memory);
     }
-    let page = page(alloc, reply, &context.label, context.resource)?;
+    let page = page_of_reply(alloc, reply, context)?;
     let text = print_page(alloc, &page, context.method, closing)?;
     Ok(text)
+}
+
+/// The page of a reply, of the strict profile.
+fn page_of_reply(alloc: Global, reply: Reply, context: &ReplyContext<'_>) -> Result<Page, Memory>
+    requires reply { reply ≢ answer.Memory }
+    requires showable { IsShowable reply }
+    ensures { IfOk result
+        (λ page. page ≡ page_of reply context.now.label (strict_context context.now.resource.now)) }
+{
+    match Bytes::from_slice(alloc, context.resource) {
+        Ok(resource) => {
+            let told = PageContext::strict(resource);
+            page(alloc, reply, &context.label, &told)
+        }
+        Err(fault) => {
+            drop(reply);
+            Err(fault)
+        }
+    }
 }

@@ -10,9 +10,10 @@ use Rattle.account_calls.specs.Fault.{CausesFault}
 use Rattle.account_calls.specs.Listing.{TellsOf}
 use Rattle.account_calls.specs.Stutters.{Stutters}
 use Rattle.account_calls.proofs.lemmas.Idle.{goes_none, none_made}
-use Rattle.sweep.specs.Swept.{TellsSurvey, account_calls, as_plan, survey_of}
-use Rattle.sweep.specs.declared.account.SweepFault.{SweepFault}
-use Rattle.sweep.specs.declared.account.SweepFault.TheVariants as sweeping
+use Rattle.sweep.specs.Swept.{TellsSurvey, account_calls, survey_of}
+use Rattle.leftovers.specs.Faults.{as_plan}
+use Rattle.leftovers.specs.declared.fault.SweepFault.{SweepFault}
+use Rattle.leftovers.specs.declared.fault.SweepFault.TheVariants as sweeping
 use Rattle.sweep.specs.declared.counting.Surveyed.{Surveyed}
 use Rattle.gateway_cmd.specs.declared.status.RunOutcome.{RunOutcome}
 use Rattle.gateway_cmd.specs.declared.status.RunOutcome.TheVariants.{Plain}

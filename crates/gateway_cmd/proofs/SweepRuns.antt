@@ -8,9 +8,10 @@ use Rattle.account_calls.specs.Calls.{Any, Met}
 use Rattle.account_calls.proofs.lemmas.Agree.{quiet_agree}
 use Rattle.account_calls.proofs.lemmas.Idle.{none_made}
 use Rattle.recovery.specs.Settling.{Settles}
-use Rattle.sweep.specs.Swept.{Forgets, ForgetsBy, SweepsBefore, as_plan}
-use Rattle.sweep.specs.declared.account.SweepFault.{SweepFault}
-use Rattle.sweep.specs.declared.account.SweepFault.TheVariants as sweeping
+use Rattle.sweep.specs.Swept.{Forgets, ForgetsBy, SweepsBefore}
+use Rattle.leftovers.specs.Faults.{as_plan}
+use Rattle.leftovers.specs.declared.fault.SweepFault.{SweepFault}
+use Rattle.leftovers.specs.declared.fault.SweepFault.TheVariants as sweeping
 use Rattle.sweep.specs.declared.account.Swept.{Swept}
 use Rattle.gateway_cmd.specs.declared.status.RunOutcome.{RunOutcome}
 use Rattle.gateway_cmd.specs.declared.status.RunOutcome.TheVariants.{Plain}

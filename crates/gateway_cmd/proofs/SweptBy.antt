@@ -8,9 +8,10 @@ use Rattle.upload_records.specs.Native.{IsSettled}
 use Rattle.account_calls.specs.Calls.{Any, GoesOn, Met}
 use Rattle.account_calls.specs.Fault.{CausesFault}
 use Rattle.account_calls.proofs.lemmas.Idle.{goes_none, goes_trans, none_made}
-use Rattle.sweep.specs.Swept.{Forgets, ForgetsBy, TellsForgotten, account_calls, as_plan}
-use Rattle.sweep.specs.declared.account.SweepFault.{SweepFault}
-use Rattle.sweep.specs.declared.account.SweepFault.TheVariants as sweeping
+use Rattle.sweep.specs.Swept.{Forgets, ForgetsBy, TellsForgotten, account_calls}
+use Rattle.leftovers.specs.Faults.{as_plan}
+use Rattle.leftovers.specs.declared.fault.SweepFault.{SweepFault}
+use Rattle.leftovers.specs.declared.fault.SweepFault.TheVariants as sweeping
 use Rattle.sweep.specs.declared.account.Swept.{Swept}
 use Rattle.gateway_cmd.specs.declared.status.RunOutcome.{RunOutcome}
 use Rattle.gateway_cmd.specs.declared.status.RunOutcome.TheVariants.{Told}

@@ -4,9 +4,9 @@ use Rattle.std.proofs.Common.{refl, sym, ap, subst, inl, inr, arith}
 use Rattle.gate_base.specs.Causes.{RisesIf}
 use Rattle.gate_base.specs.Told.{SinkModel}
 use Rattle.account_calls.specs.Fault.{CausesFault}
-use Rattle.sweep.specs.Swept.{plan_of}
-use Rattle.sweep.specs.declared.account.SweepFault.{SweepFault}
-use Rattle.sweep.specs.declared.account.SweepFault.TheVariants as sweeping
+use Rattle.leftovers.specs.Faults.{plan_of}
+use Rattle.leftovers.specs.declared.fault.SweepFault.{SweepFault}
+use Rattle.leftovers.specs.declared.fault.SweepFault.TheVariants as sweeping
 use Rattle.gateway_cmd.specs.declared.status.RunOutcome.TheVariants.{Told}
 use Rattle.gateway_cmd.specs.declared.status.Told.{Told as Reported}
 use Rattle.gateway_cmd.specs.Report.{Reports, Says, lines_of, unswept}

@@ -7,8 +7,8 @@ use Rattle.s3_names.specs.Escapes.{escaped_all}
 use Rattle.recovery.specs.declared.state.SettleFault.{SettleFault}
 use Rattle.recovery.specs.declared.state.SettleFault.TheVariants as settling
 use Rattle.sigv4.specs.declared.signature.Signed.{Signed}
-use Rattle.sweep.specs.declared.account.SweepFault.{SweepFault}
-use Rattle.sweep.specs.declared.account.SweepFault.TheVariants as sweeping
+use Rattle.leftovers.specs.declared.fault.SweepFault.{SweepFault}
+use Rattle.leftovers.specs.declared.fault.SweepFault.TheVariants as sweeping
 use Rattle.sweep.specs.declared.account.Swept.{Swept}
 use Rattle.sweep.specs.declared.counting.Surveyed.{Surveyed}
 use Rattle.sign_cmd.specs.declared.first.Signing.{Signing}

@@ -9,7 +9,7 @@ use Rattle.account_calls.specs.Stutters.{Stutters}
 use Rattle.recovery.specs.declared.state.SettleFault.{SettleFault}
 use Rattle.recovery.specs.Settling.{Settles}
 use Rattle.sweep.specs.Swept.{Forgets, SurveysAccount, SweepsBefore, TellsForgotten, account_calls}
-use Rattle.sweep.specs.declared.account.SweepFault.{SweepFault}
+use Rattle.leftovers.specs.declared.fault.SweepFault.{SweepFault}
 use Rattle.sweep.specs.declared.account.Swept.{Swept}
 use Rattle.sweep.specs.declared.counting.Surveyed.{Surveyed}
 use Rattle.gateway_cmd.specs.declared.status.RunOutcome.{RunOutcome}

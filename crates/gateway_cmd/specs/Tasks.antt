@@ -2,6 +2,7 @@
 use Rattle.std.specs.Prelude.{ℕ, Bool, List, Option, Some, None, String}
 use Rattle.std.specs.declared.alloc.Global.{Global}
 use Rattle.s3_machine.specs.declared.operation.Settings.{Settings}
+use Rattle.s3_machine.specs.Limits.{strict_settings}
 use Rattle.sigv4.specs.Keys.{keys_of}
 use Rattle.gateway.specs.declared.service.Service.{Service}
 use Rattle.gateway_cli.specs.Words.{command_of}
@@ -10,7 +11,7 @@ use Rattle.gateway_cli.specs.declared.command.Command.TheVariants.{Session, Serv
 
 -- the settings of a service of that region, with that least part, that largest body, and whether it is extended
 abbrev pub settings_of : List ℕ → ℕ → ℕ → Bool → Settings
-settings_of region least largest extended = record { region = region; least_part = least; largest_body = largest; extended = extended }
+settings_of region least largest extended = record (strict_settings region least largest) { extended = extended }
 
 -- what connections are served by: the settings that the words ask for, and how many connections at most; and the keys of a
 -- key text

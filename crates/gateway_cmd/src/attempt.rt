@@ -203,10 +203,8 @@ fn settings_of(region: Bytes, least_part: u64, largest_body: u64, extended: bool
     ensures { result ≡ settings_of region least_part largest_body extended }
 {
     Settings {
-        region,
-        least_part,
-        largest_body,
         extended,
+        ..Settings::strict(region, least_part, largest_body)
     }
 }
 

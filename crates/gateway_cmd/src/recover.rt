@@ -46,11 +46,6 @@ pub fn unsettled_outcome(fault: SettleFault) -> RunOutcome
 pub fn settle_for_command<W: Swift>(alloc: Global, store: &mut W) -> Result<(), SettleFault>
     ensures { Settles (W.history store.old) (W.history store.new) result }
 {
-    let settings = Settings {
-        region: Bytes::new(alloc),
-        least_part: 0,
-        largest_body: 0,
-        extended: false,
-    };
+    let settings = Settings::strict(Bytes::new(alloc), 0, 0);
     Unsure::open(alloc, store, &settings).settle()
 }

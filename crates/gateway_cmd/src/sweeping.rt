@@ -2,7 +2,7 @@
 ghost use Rattle.std.specs.Prelude.{◌≡◌, true, Result as result_of};
 ghost use Rattle.account_calls.specs.Calls.{GoesOn};
 ghost use Rattle.sweep.specs.Swept.{SweepsBefore};
-ghost use Rattle.sweep.specs.declared.account.SweepFault.{SweepFault as why};
+ghost use Rattle.leftovers.specs.declared.fault.SweepFault.{SweepFault as why};
 ghost use Rattle.sweep.specs.declared.account.Swept.{Swept as counts};
 ghost use Rattle.gateway_cmd.specs.Facts.{Fits, ends_by_store};
 ghost use Rattle.gateway_cmd.specs.Report.{swept_outcome, unswept};
@@ -11,8 +11,9 @@ ghost use Rattle.gateway_cmd.specs.Tasks.{Task, to_check, to_sweep};
 
 use crate::recover::{settle_for_command, unsettled_outcome};
 use crate::status::{RunOutcome, Status, Told};
+use leftovers::SweepFault;
 use std::alloc::Global;
-use sweep::{SweepFault, survey, sweep_before};
+use sweep::{survey, sweep_before};
 use swift_calls::Swift;
 
 /// Settles the store; then removes what is left over on its account, gives each kept completion its moment, and forgets those from

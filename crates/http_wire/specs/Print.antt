@@ -88,3 +88,10 @@ memory_reply false =
 memory_reply true =
     codes "HTTP/1.1 500 Internal Server Error" ++ crlf_bytes ++ codes "Content-Length: 0" ++ crlf_bytes
     ++ codes "Connection: close" ++ crlf_bytes ++ crlf_bytes
+
+-- the reply to a client whose body came too slowly, which closes the connection: the code and the message of RequestTimeout (this profile)
+abbrev pub slow_reply : List ℕ
+slow_reply =
+    codes "HTTP/1.1 400 Bad Request" ++ crlf_bytes ++ codes "Content-Type: application/xml" ++ crlf_bytes
+    ++ codes "Content-Length: 86" ++ crlf_bytes ++ codes "Connection: close" ++ crlf_bytes ++ crlf_bytes
+    ++ codes "<Error><Code>RequestTimeout</Code><Message>The body came too slowly.</Message></Error>"

@@ -22,5 +22,5 @@ pub use join::joined;
 pub use judge::{BODY_LIMIT, MOST_BODY_LIMIT};
 pub use laws::{interim_owed, one_front, one_request_spelling, request_size};
 pub use message::{Got, Kind, Message, ReadFault};
-pub use print::{print_memory, print_page};
+pub use print::{print_memory, print_page, print_slow};
 pub use reader::Reader;

@@ -1,6 +1,6 @@
 ghost use Rattle.std.specs.Prelude.{◌≡◌, ◌++◌, flat_map, IfOk, OnOk};
 ghost use Rattle.std.specs.List.{list_any};
-ghost use Rattle.http_wire.specs.Print.{IsReplyStatus, page_text, memory_reply, status_line, header_line, length_line, closing_line, sent_body, is_bodiless, is_printed_content_length, phrase_of};
+ghost use Rattle.http_wire.specs.Print.{IsReplyStatus, page_text, memory_reply, status_line, header_line, length_line, closing_line, sent_body, is_bodiless, is_printed_content_length, phrase_of, slow_reply};
 
 use gate_base::{Bytes, Memory, Page, Pair};
 use http::StatusCode;
@@ -38,6 +38,14 @@ pub fn print_memory(head: bool) -> &'static [u8]
     } else {
         b"HTTP/1.1 500 Internal Server Error\r\nContent-Type: application/xml\r\nContent-Length: 66\r\nConnection: close\r\n\r\n<Error><Code>InternalError</Code><Message>Memory</Message></Error>"
     }
+}
+
+/// The reply to a client whose body came too slowly, which takes no memory: it closes the connection, and has neither date nor id (this
+/// profile). It is written by whoever holds the line, which is given up with it.
+pub fn print_slow() -> &'static [u8]
+    ensures { result.now ≡ slow_reply }
+{
+    b"HTTP/1.1 400 Bad Request\r\nContent-Type: application/xml\r\nContent-Length: 86\r\nConnection: close\r\n\r\n<Error><Code>RequestTimeout</Code><Message>The body came too slowly.</Message></Error>"
 }
 
 fn append_status(text: &mut Bytes, status: u16) -> Result<(), Memory>

@@ -1,5 +1,5 @@
 -- What a copy is of, and what it tells, over every observable store.
-use Rattle.std.specs.Prelude.{◌≡◌, ◌<◌, ℕ, Bool, false, IsTrue, List, length, Option, None, Some, IfSome, Result, Ok, Err, IfOk}
+use Rattle.std.specs.Prelude.{◌≡◌, ◌<◌, ℕ, false, IsTrue, List, length, Option, None, Some, IfSome, Result, Ok, Err, IfOk}
 use Rattle.std.proofs.Common.{refl, sym, ap, subst, arith}
 use Rattle.s3_machine.specs.declared.only_if.OnlyIf.{OnlyIf}
 use Rattle.s3_machine.specs.declared.operation.ObjectHead.{ObjectHead}
@@ -98,7 +98,7 @@ of_part (Err fault) = record { so = λ observable. tt }
 
 -- what is said of no source is said of no operation
 unsaid : (operation : Op) (tree : SwiftAccount) (reply : Reply) → ((bucket key : List ℕ) → IsOfStored tree bucket key reply) → IsOfSource operation tree reply
-unsaid (OnObjects objects_op.ListBuckets) tree reply so = tt
+unsaid (OnObjects (objects_op.ListBuckets asked)) tree reply so = tt
 unsaid (OnObjects (objects_op.CreateBucket made)) tree reply so = tt
 unsaid (OnObjects (objects_op.DeleteBucket bucket)) tree reply so = tt
 unsaid (OnObjects (objects_op.HeadBucket bucket)) tree reply so = tt
@@ -111,6 +111,8 @@ unsaid (op_as.GetObject read) tree reply so = tt
 unsaid (OnObjects (objects_op.HeadObject read)) tree reply so = tt
 unsaid (OnObjects (objects_op.DeleteObject deletion)) tree reply so = tt
 unsaid (OnObjects (objects_op.GetObjectAcl name)) tree reply so = tt
+unsaid (OnObjects (objects_op.PutObjectAcl set)) tree reply so = tt
+unsaid (OnObjects (objects_op.GetSetting read)) tree reply so = tt
 unsaid (OnUploads (uploads_op.ListUploads list)) tree reply so = tt
 unsaid (OnUploads (uploads_op.CreateUpload start)) tree reply so = tt
 unsaid (OnUploads (uploads_op.UploadPart part)) tree reply so = tt

@@ -186,7 +186,7 @@ module _ (settings : Settings) (bucket key text : List ℕ) (number : ℕ) (from
         large_is : (t : Bool) → nat_lt (body_limit settings) (copied_span range head.size).length ≡ t → nat_lt (body_limit settings) (copied_span range (length found.0.bytes)).length ≡ t
         large_is t e = ap (λ n. nat_lt (body_limit settings) (copied_span range n).length) size_is ∙ e
 
-        pub copy_past_end : has_last range head.size ≡ false → S3Step settings (s3_state tree) copying label (reply.Refused InvalidRange) (s3_state tree)
+        pub copy_past_end : has_last range head.size ≡ false → S3Step settings (s3_state tree) copying label (reply.Refused (InvalidRange None)) (s3_state tree)
         copy_past_end e = part_copy_past_end settings (s3_state tree) bucket key text number from_bucket from_key range no_conditions label (opened_in is may.opened) source refl (last_is false e)
 
         module _ (ends : has_last range head.size ≡ true) where

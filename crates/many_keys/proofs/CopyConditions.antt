@@ -1,5 +1,5 @@
 -- A copy that asks what stands under its key: where that refuses it, it ends.
-use Rattle.std.specs.Prelude.{◌≡◌, ◌≤◌, ℕ, ◌+◌, List, None, Result, Ok}
+use Rattle.std.specs.Prelude.{◌≤◌, ℕ, ◌+◌, List, None, Result, Ok}
 use Rattle.std.proofs.Common.{sym, subst, inl, inr, arith}
 use Rattle.s3_names.specs.declared.acl.Acl.{Acl}
 use Rattle.s3_machine.specs.declared.code.Code.{Code}

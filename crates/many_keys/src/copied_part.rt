@@ -179,7 +179,7 @@ fn plan_part_copy_of_source<W: Swift>(
 {
     copy.into.bucket.fits();
     if !has_last(&copy.range, head.size) {
-        return Ok(Reply::Refused(Code::InvalidRange));
+        return Ok(Reply::Refused(Code::InvalidRange(None)));
     }
     let wanted = copied_span(&copy.range, head.size).length;
     let limit = state.settings().body_limit();

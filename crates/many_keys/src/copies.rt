@@ -347,6 +347,7 @@ fn put_copy<W: Swift>(
             body: Body::new(body),
         }),
         only_if: OnlyIf::Always,
+        checksum: None,
     };
     let moment = to.label.moment;
     end_copy_object_plan(

@@ -1,5 +1,5 @@
 -- A completion that asks what stands under its key: where that refuses it it ends, and else it goes on as the one without a condition.
-use Rattle.std.specs.Prelude.{◌≡◌, ℕ, ◌+◌, true, List, Option, None, Some, IfOk, Result, Ok, Err}
+use Rattle.std.specs.Prelude.{◌≡◌, ℕ, ◌+◌, true, List, Option, None, Some, Result, Ok}
 use Rattle.std.proofs.Common.{refl, sym, subst, inl, inr, arith}
 use Rattle.s3_names.specs.Bucket.{is_bucket}
 use Rattle.s3_machine.specs.declared.code.Code.{Code}
@@ -14,7 +14,7 @@ use Rattle.s3_machine.specs.declared.operation.Settings.{Settings}
 use Rattle.s3_machine.specs.Step.{S3Step}
 use Rattle.s3_machine.specs.declared.items.PartItem.{PartItem}
 use Rattle.swift_calls.specs.Account.{SwiftAccount}
-use Rattle.swift_calls.specs.History.{History, present}
+use Rattle.swift_calls.specs.History.{History}
 use Rattle.upload_records.specs.Consistent.{IsConsistent}
 use Rattle.upload_records.specs.Native.{IsSettled, s3_state}
 use Rattle.account_calls.specs.Answers.{condition_calls}

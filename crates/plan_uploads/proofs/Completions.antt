@@ -183,7 +183,7 @@ module _ (tree : SwiftAccount) (bucket key : List ℕ) (opened : Opened) (parts 
         let lists_same = sym (same_list chooses) in
         let done = is_completed tree bucket key id opened is has.opens settings list Always label ascends ps (chose id has settings list label ascends sealed lists).1 (same_small chooses settings.least_part ∙ large) refl in
         record {
-          id = done.id;
+          choice = done.choice;
           free = done.free;
           replies = ap (Completed bucket key) (sym same_etag) ∙ done.replies;
           goes = (λ i. finished (record {

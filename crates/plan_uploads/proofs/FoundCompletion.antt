@@ -3,7 +3,7 @@
 use Rattle.std.specs.Prelude.{◌≡◌, ◌≤◌, is_some, ℕ, Bool, true, false, bytes_eq, ◌&&◌, cond, List, Option, Some, None}
 use Rattle.std.specs.Cmp.Lexicographic.{pointwise}
 use Rattle.std.specs.FinMap.{get}
-use Rattle.std.proofs.Common.{refl, sym, ap, subst, ◌∙◌, true≢false, arith, lit≤}
+use Rattle.std.proofs.Common.{refl, sym, ap, subst, ◌∙◌, true≢false, lit≤}
 use Rattle.std.proofs.lemmas.Slice.Eq.{bytes_eq-Decides}
 use Rattle.gate_base.specs.declared.page.Pair.{Pair}
 use Rattle.s3_names.specs.Bucket.{is_bucket}

@@ -196,5 +196,5 @@ seal_reads tree s text reads stands = ap seal_by stands ∙ reads
 -- what is sealed is this completion, where the PUT of its text was answered so
 pub seal_stands : {a b : History} {request : SwiftRequest} {reply : SwiftReply} {s : Sealed} {text : List ℕ} (etag : List ℕ) → request ≡ put_sealed_text text → read_sealed text ≡ Some s → Calls a b request (Ok reply)
     → (result : Result (Unit {0}) PlanFault) → result ≡ stored_due etag reply → Ensures b (λ tree. seal_of tree ≡ Some s) result
-seal_stands {b = b} {s = s} {text = text} etag same reads calls (Ok done) is = record { so = λ observable. seal_reads (present b) s text reads (subst (StandsIn (present b)) same (file_stands etag calls (sym is) observable)) }
+seal_stands {b = b} {s = s} {text = text} etag same reads calls (Ok told) is = record { so = λ observable. seal_reads (present b) s text reads (subst (StandsIn (present b)) same (file_stands etag calls (sym is) observable)) }
 seal_stands etag same reads calls (Err fault) is = record { so = λ observable. tt }

@@ -40,8 +40,8 @@ use Rattle.plan_uploads.specs.Plans.{parts_told, uploads_told}
 -- ---- the bucket is missing
 
 module _ (settings : Settings) (state : State) (bucket : List ℕ) (label : Label) (missing : LacksBucket bucket state) where
-  pub part_missing : (key text : List ℕ) (number : ℕ) (body : List ℕ) → S3Step settings state (UploadPart bucket key text number body) label (reply.Refused NoSuchBucket) state
-  part_missing key text number body = steps _ _ 0 tt (in_missing state bucket missing (in_upload state key text (puts_part state bucket text number (new_part label.moment body))))
+  pub part_missing : (key text : List ℕ) (number : ℕ) (body : List ℕ) (checksum : Option Pair) → S3Step settings state (UploadPart bucket key text number body checksum) label (reply.Refused NoSuchBucket) state
+  part_missing key text number body checksum = steps _ _ 0 tt (in_missing state bucket missing (in_upload state key text (puts_part state bucket text number (new_part label.moment body) checksum)))
 
   pub parts_missing : (key text : List ℕ) (marker max : ℕ) → S3Step settings state (ListParts bucket key text marker max) label (reply.Refused NoSuchBucket) state
   parts_missing key text marker max = steps _ _ 0 tt (in_missing state bucket missing (in_upload state key text (lists_parts state bucket key text marker max)))
@@ -67,8 +67,8 @@ module _ (settings : Settings) (bucket key text : List ℕ) (label : Label) (tre
         let it = bucket_there tree bucket is lacks.settled lacks.there in
         in_found (s3_state tree) bucket (bucket_from (files tree (uploads_name bucket)) (files tree (segments_name bucket)) it.folder) it.is (in_upload (s3_state tree) key text f) ∙ no_upload bucket key text tree is lacks f
 
-    pub part_lost : (number : ℕ) (body : List ℕ) → S3Step settings (s3_state tree) (UploadPart bucket key text number body) label (reply.Refused NoSuchUpload) (s3_state tree)
-    part_lost number body = steps _ _ 0 tt (none_in (puts_part (s3_state tree) bucket text number (new_part label.moment body)))
+    pub part_lost : (number : ℕ) (body : List ℕ) (checksum : Option Pair) → S3Step settings (s3_state tree) (UploadPart bucket key text number body checksum) label (reply.Refused NoSuchUpload) (s3_state tree)
+    part_lost number body checksum = steps _ _ 0 tt (none_in (puts_part (s3_state tree) bucket text number (new_part label.moment body) checksum))
 
     pub parts_lost : (marker max : ℕ) → S3Step settings (s3_state tree) (ListParts bucket key text marker max) label (reply.Refused NoSuchUpload) (s3_state tree)
     parts_lost marker max = steps _ _ 0 tt (none_in (lists_parts (s3_state tree) bucket key text marker max))
@@ -78,12 +78,12 @@ module _ (settings : Settings) (bucket key text : List ℕ) (label : Label) (tre
 
   -- it is open
   module _ (id : ℕ) (found : IsOpenUpload bucket key text id tree) where
-    pub part_stored : (number : ℕ) (body etag : List ℕ) → etag ≡ body_etag body
-        → S3Step settings (s3_state tree) (UploadPart bucket key text number body) label (reply.Stored etag) (records.puts_part bucket id number body label.moment (s3_state tree))
-    part_stored number body etag same =
-        subst (λ e. S3Step settings (s3_state tree) (UploadPart bucket key text number body) label (reply.Stored e) (records.puts_part bucket id number body label.moment (s3_state tree))) (sym same)
-        (subst (λ t. S3Step settings (s3_state tree) (UploadPart bucket key text number body) label (reply.Stored (body_etag body)) (adjust_part t)) found.is
-        (step_part settings (s3_state tree) bucket key text label (has_upload bucket key text id tree is found).has number body))
+    pub part_stored : (number : ℕ) (body etag : List ℕ) (checksum : Option Pair) → etag ≡ body_etag body
+        → S3Step settings (s3_state tree) (UploadPart bucket key text number body checksum) label (reply.Stored etag checksum) (records.puts_part bucket id number body label.moment (s3_state tree))
+    part_stored number body etag checksum same =
+        subst (λ e. S3Step settings (s3_state tree) (UploadPart bucket key text number body checksum) label (reply.Stored e checksum) (records.puts_part bucket id number body label.moment (s3_state tree))) (sym same)
+        (subst (λ t. S3Step settings (s3_state tree) (UploadPart bucket key text number body checksum) label (reply.Stored (body_etag body) checksum) (adjust_part t)) found.is
+        (step_part settings (s3_state tree) bucket key text label (has_upload bucket key text id tree is found).has number body checksum))
       where
         adjust_part : List ℕ → State
         adjust_part t = adjust bucket (on_upload t (with_part number (new_part label.moment body))) (s3_state tree)

@@ -1,5 +1,5 @@
 -- A plan stops at the call that shows why it is refused.
-use Rattle.std.specs.Prelude.{◌≡◌, ◌+◌, ◌≤◌, ◌&&◌, ℕ, true, false, cond, bytes_eq, List, Option, None, Some, Result, Ok, Err, IfOk}
+use Rattle.std.specs.Prelude.{◌≡◌, ◌&&◌, ℕ, true, false, cond, bytes_eq, List, Option, None, Some, Result, Ok, Err, IfOk}
 use Rattle.std.specs.Cmp.Lexicographic.{pointwise}
 use Rattle.std.proofs.Common.{refl, sym, ◌∙◌, true≢false}
 use Rattle.s3_machine.specs.Uploads.{same_listed}

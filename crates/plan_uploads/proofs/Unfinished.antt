@@ -1,5 +1,5 @@
 -- By which fault the calls of a completion broke off from the one that seals it on.
-use Rattle.std.specs.Prelude.{◌≡◌, ◌+◌, ℕ, true, None, Some, Result, Ok, Err}
+use Rattle.std.specs.Prelude.{◌≡◌, ◌+◌, ℕ, true, Some, Result, Ok, Err}
 use Rattle.std.specs.Result.{IsErrAnd}
 use Rattle.std.proofs.Common.{refl, sym, subst, ◌∙◌}
 use Rattle.gate_base.specs.Causes.{Rose}

@@ -10,7 +10,6 @@ use Rattle.s3_machine.specs.declared.operation.Label.{Label}
 use Rattle.s3_machine.specs.declared.operation.Op.{Op}
 use Rattle.s3_machine.specs.declared.operation.Op.TheVariants.{OnUploads}
 use Rattle.s3_machine.specs.declared.operation.UploadsOp.TheVariants as uploads_op
-use Rattle.s3_machine.specs.Ops.{CreateUpload, UploadPart, CompleteUpload}
 use Rattle.s3_machine.specs.declared.operation.Reply.{Reply}
 use Rattle.s3_machine.specs.Replies as reply
 use Rattle.swift_calls.specs.Account.{SwiftAccount}

@@ -18,8 +18,8 @@ ghost use Rattle.upload_calls.specs.Records.{StandsPart};
 ghost use Rattle.plan_uploads.specs.Replies.{AnswersUpload};
 
 use account_calls::{PlanFault, Settled, stored_end};
-use gate_base::Bytes;
-use s3_machine::{Body, Code, Label, PartPut, Proper, Reply};
+use gate_base::{Bytes, Pair};
+use s3_machine::{Body, Code, Label, PartPut, Proper, Reply, StoredBytes};
 use swift_calls::Swift;
 use upload_calls::{Found, PartPlace, find_upload, put_part};
 
@@ -51,7 +51,7 @@ pub(crate) fn upload_part<W: Swift>(
                 number: part.number,
                 label: *label,
             };
-            part_into(state, place, part.body)
+            part_into(state, place, part.body, part.checksum)
         }
     }
 }
@@ -61,12 +61,14 @@ fn part_into<W: Swift>(
     state: &mut Settled<'_, W>,
     place: PartPlace,
     body: Proper<Body>,
+    checksum: Option<Pair>,
 ) -> Result<Reply, PlanFault>
     ensures stays { Stays state.old state.new }
     ensures plans { (key text : List ℕ)
         → Plans (always 1) (W.history state.old.store.now) (W.history state.new.store.now)
         state.old.settings.now (GivenOf (IsOpenUpload place.bucket key text place.id))
-        (ops.UploadPart place.bucket key text place.number body) place.label known.Settled result }
+        (ops.UploadPart place.bucket key text place.number body checksum) place.label known.Settled
+        result }
     ensures stands { EnsuresIfDone (W.history state.new.store.now)
         (λ tree. StandsIn tree (put_part_of place.bucket place.id place.number body
         place.label.moment)) result }
@@ -75,15 +77,16 @@ fn part_into<W: Swift>(
 {
     let body = body.into_value();
     let etag = body.etag();
-    plan_upload_part_bytes(state, &place, body.into_bytes(), &etag)
+    plan_upload_part_bytes(state, &place, body.into_bytes(), &etag, checksum)
 }
 
-/// The PUT of UploadPart, of a body that has this ETag.
+/// The PUT of UploadPart, of a body that has this ETag, and of which this checksum was compared.
 fn plan_upload_part_bytes<W: Swift>(
     state: &mut Settled<'_, W>,
     place: &PartPlace,
     body: Bytes,
     etag: &[u8; 32],
+    checksum: Option<Pair>,
 ) -> Result<Reply, PlanFault>
     requires sized { length body ≤ most_body_bytes }
     requires etag { etag.now ≡ body_etag body }
@@ -91,7 +94,7 @@ fn plan_upload_part_bytes<W: Swift>(
     ensures plans { (key text : List ℕ)
         → Plans (always 1) (W.history state.old.store.now) (W.history state.new.store.now)
         state.old.settings.now (GivenOf (IsOpenUpload place.now.bucket key text place.now.id))
-        (ops.UploadPart place.now.bucket key text place.now.number body) place.now.label
+        (ops.UploadPart place.now.bucket key text place.now.number body checksum) place.now.label
         known.Settled
         result }
     ensures stands { EnsuresIfDone (W.history state.new.store.now)
@@ -103,6 +106,9 @@ fn plan_upload_part_bytes<W: Swift>(
 {
     let alloc = state.alloc;
     place.bucket.fits();
-    let text = Bytes::from_slice(alloc, etag)?;
-    stored_end(put_part(state, place, body, etag), text)
+    let stored = StoredBytes {
+        etag: Bytes::from_slice(alloc, etag)?,
+        checksum,
+    };
+    stored_end(put_part(state, place, body, etag), stored)
 }

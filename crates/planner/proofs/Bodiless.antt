@@ -48,18 +48,19 @@ no_object reply.Memory none = tt
 no_object reply.Done none = tt
 no_object reply.Gone none = tt
 no_object (reply.NotModified head) none = tt
-no_object (OfObjects (objects_reply.Buckets items)) none = tt
+no_object (OfObjects (objects_reply.Buckets page)) none = tt
 no_object (OfObjects (objects_reply.Made bucket)) none = tt
 no_object (OfObjects (objects_reply.Location region)) none = tt
 no_object (OfObjects (objects_reply.AclOf acl)) none = tt
 no_object (OfObjects (objects_reply.Objects page)) none = tt
 no_object (OfUploads (uploads_reply.Uploads page)) none = tt
-no_object (reply.Stored etag) none = tt
+no_object (reply.Stored stored) none = tt
 no_object (reply.Object object) none = absurd (true≢false none)
 no_object (OfUploads (uploads_reply.Started started)) none = tt
 no_object (OfUploads (uploads_reply.Parts page)) none = tt
 no_object (OfUploads (uploads_reply.Completed completed)) none = tt
 no_object (OfObjects (objects_reply.Deleted deleted)) none = tt
+no_object (OfObjects (objects_reply.Setting page)) none = tt
 no_object (reply.Copied copied) none = tt
 
 found_bodiless : (reading : Reading) → LeavesBytes reading → HasNoByte reading

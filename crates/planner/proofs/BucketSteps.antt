@@ -5,14 +5,17 @@ use Rattle.std.specs.FinMap.{get}
 use Rattle.std.proofs.Common.{refl, sym, ap, subst, ◌∙◌}
 use Rattle.gate_base.proofs.lemmas.Maps.{some_value}
 use Rattle.s3_names.specs.declared.acl.Acl.{Acl}
-use Rattle.s3_machine.specs.declared.code.Code.TheVariants.{AccessDenied, NoSuchBucket, NoSuchKey}
+use Rattle.s3_machine.specs.declared.code.Code.TheVariants.{AccessControlListNotSupported, AccessDenied, NoSuchBucket, NoSuchKey}
 use Rattle.s3_machine.specs.declared.operation.Label.{Label}
 use Rattle.s3_machine.specs.declared.operation.ObjectHead.{ObjectHead}
 use Rattle.s3_machine.specs.declared.operation.Settings.{Settings}
-use Rattle.s3_machine.specs.Ops.{ListBuckets, DeleteBucket, HeadBucket, GetLocation, GetBucketAcl, PutBucketAcl, GetObjectAcl}
+use Rattle.s3_machine.specs.Ops.{ListBuckets, DeleteBucket, HeadBucket, GetLocation, GetBucketAcl, PutBucketAcl, GetObjectAcl, PutObjectAcl, GetSetting}
 use Rattle.s3_machine.specs.Replies as reply
 use Rattle.s3_machine.specs.State.{Bucket, State}
-use Rattle.s3_machine.specs.Step.{S3Step, is_bare, may_read}
+use Rattle.s3_machine.specs.declared.buckets.BucketListing.{BucketListing}
+use Rattle.s3_machine.specs.declared.unset.Unset.{Unset}
+use Rattle.s3_machine.specs.Buckets.{bucket_page}
+use Rattle.s3_machine.specs.Step.{S3Step, buckets_reply, is_bare, is_other_acl, may_read, unset_reply}
 use Rattle.s3_machine.proofs.lemmas.StepLemmas.{
   drop_without_bucket,
   show_without_bucket,
@@ -29,6 +32,14 @@ use Rattle.s3_machine.proofs.lemmas.StepLemmas.{
   step_acl_set,
   object_acl_without_key,
   step_object_acl,
+  set_object_acl_without_bucket,
+  set_object_acl_without_key,
+  set_object_acl_other,
+  step_object_acl_set,
+  setting_without_bucket,
+  setting_without_key,
+  step_setting,
+  step_object_setting,
   step_listed,
 }
 use Rattle.upload_records.specs.Native.{object_at}
@@ -59,6 +70,12 @@ module _ (settings : Settings) (state : State) (bucket : List ℕ) (label : Labe
 
     pub object_acl_missing : (key : List ℕ) → S3Step settings state (GetObjectAcl bucket key) label (reply.Refused NoSuchBucket) state
     object_acl_missing key = object_acl_without_bucket settings state bucket label (missing_of bucket state told) key
+
+    pub set_object_acl_missing : (key : List ℕ) (acl : Acl) → S3Step settings state (PutObjectAcl bucket key acl) label (reply.Refused NoSuchBucket) state
+    set_object_acl_missing key acl = set_object_acl_without_bucket settings state bucket label (missing_of bucket state told) key acl
+
+    pub setting_missing : (key : Option (List ℕ)) (unset : Unset) → S3Step settings state (GetSetting bucket key unset) label (reply.Refused NoSuchBucket) state
+    setting_missing key unset = setting_without_bucket settings state bucket label (missing_of bucket state told) key unset
 
   -- it has this list
   module _ (list : Acl) (told : TellsBucket bucket state (Some list)) where
@@ -95,6 +112,36 @@ module _ (settings : Settings) (state : State) (bucket : List ℕ) (label : Labe
           subst (λ l. S3Step settings state (GetObjectAcl bucket key) label (reply.AclOf l) state) it.2
           (step_object_acl settings state bucket label it.0 it.1 key x.0 (sym under ∙ x.1))
 
+      module _ (acl : Acl) where
+        pub set_object_acl_none : TellsObject bucket key state None → S3Step settings state (PutObjectAcl bucket key acl) label (reply.Refused NoSuchKey) state
+        set_object_acl_none none =
+            set_object_acl_without_key settings state bucket label it.0 it.1 key acl (sym under ∙ no_object (object_at (get state bucket) key) none)
+
+        pub set_object_acl_refused : is_other_acl (Some acl) list ≡ true → (head : ObjectHead) → TellsObject bucket key state (Some head)
+            → S3Step settings state (PutObjectAcl bucket key acl) label (reply.Refused AccessControlListNotSupported) state
+        set_object_acl_refused other head there =
+            let x = object_by_head (object_at (get state bucket) key) head there in
+            set_object_acl_other settings state bucket label it.0 it.1 key acl x.0 (sym under ∙ x.1) (ap (is_other_acl (Some acl)) it.2 ∙ other)
+
+        pub object_acl_set : is_other_acl (Some acl) list ≡ false → (head : ObjectHead) → TellsObject bucket key state (Some head)
+            → S3Step settings state (PutObjectAcl bucket key acl) label reply.Done state
+        object_acl_set same head there =
+            let x = object_by_head (object_at (get state bucket) key) head there in
+            step_object_acl_set settings state bucket label it.0 it.1 key acl x.0 (sym under ∙ x.1) (ap (is_other_acl (Some acl)) it.2 ∙ same)
+
+      module _ (unset : Unset) where
+        pub object_setting_none : TellsObject bucket key state None → S3Step settings state (GetSetting bucket (Some key) unset) label (reply.Refused NoSuchKey) state
+        object_setting_none none =
+            setting_without_key settings state bucket label it.0 it.1 key unset (sym under ∙ no_object (object_at (get state bucket) key) none)
+
+        pub object_setting_told : (head : ObjectHead) → TellsObject bucket key state (Some head) → S3Step settings state (GetSetting bucket (Some key) unset) label (unset_reply unset) state
+        object_setting_told head there =
+            let x = object_by_head (object_at (get state bucket) key) head there in
+            step_object_setting settings state bucket label it.0 it.1 key unset x.0 (sym under ∙ x.1)
+
+    pub setting_told : (unset : Unset) → S3Step settings state (GetSetting bucket None unset) label (unset_reply unset) state
+    setting_told unset = step_setting settings state bucket label it.0 it.1 unset
+
   -- the two that change the state, by what the call told
   pub dropped : (told : Dropped) (new : State) → DropsBucket bucket told state new → S3Step settings state (DeleteBucket bucket) label (dropped_reply told) new
   dropped Gone new does =
@@ -113,7 +160,8 @@ module _ (settings : Settings) (state : State) (bucket : List ℕ) (label : Labe
   set acl false new does =
       subst (S3Step settings state (PutBucketAcl bucket acl) label (set_reply false)) (sym does.1) (set_without_bucket settings state bucket label does.0 acl)
 
--- all buckets
-pub buckets_listed : (settings : Settings) (state : State) (label : Label) (items : List BucketItem) → TellsBuckets state items → S3Step settings state ListBuckets label (reply.Buckets items) state
-buckets_listed settings state label items told =
-    subst (λ is. S3Step settings state ListBuckets label (reply.Buckets is) state) (sym told) (step_listed settings state label)
+-- the buckets that are asked for
+pub buckets_listed : (settings : Settings) (state : State) (asked : BucketListing) (label : Label) (items : List BucketItem) → TellsBuckets state items
+    → S3Step settings state (ListBuckets asked) label (buckets_reply asked (bucket_page asked items)) state
+buckets_listed settings state asked label items told =
+    subst (λ is. S3Step settings state (ListBuckets asked) label (buckets_reply asked (bucket_page asked is)) state) (sym told) (step_listed settings state asked label)

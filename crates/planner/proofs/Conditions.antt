@@ -1,10 +1,9 @@
 -- A plan that asks what stands under the key of its write: where that refuses the write it ends, and else it goes on.
-use Rattle.std.specs.Prelude.{◌≡◌, ◌≢◌, ◌≤◌, ℕ, ◌+◌, Bool, true, false, cond, List, Option, None, Some, IfOk, IfSome, Result, Ok, Err}
+use Rattle.std.specs.Prelude.{◌≡◌, ◌≤◌, ℕ, ◌+◌, Bool, true, false, cond, List, Option, None, Some, Result, Ok, Err}
 use Rattle.std.specs.Result.{IsErrAnd}
-use Rattle.std.proofs.Common.{refl, sym, ap, subst, inl, inr, arith}
+use Rattle.std.proofs.Common.{refl, sym, subst, inl, inr, arith}
 use Rattle.s3_names.specs.declared.acl.Acl.{Acl}
 use Rattle.s3_machine.specs.declared.code.Code.{Code}
-use Rattle.s3_machine.specs.declared.code.Code.TheVariants.{NoSuchKey, PreconditionFailed}
 use Rattle.s3_machine.specs.declared.only_if.OnlyIf.{OnlyIf}
 use Rattle.s3_machine.specs.declared.operation.Label.{Label}
 use Rattle.s3_machine.specs.declared.operation.Op.{Op}
@@ -15,19 +14,18 @@ use Rattle.s3_machine.specs.OnlyIf.{is_always}
 use Rattle.s3_machine.specs.State.{State}
 use Rattle.s3_machine.specs.Step.{S3Step}
 use Rattle.swift_calls.specs.Account.{SwiftAccount}
-use Rattle.swift_calls.specs.History.{History, present}
+use Rattle.swift_calls.specs.History.{History}
 use Rattle.upload_records.specs.Native.{IsSettled, s3_state}
 use Rattle.account_calls.specs.declared.fault.PlanFault.{PlanFault}
 use Rattle.account_calls.specs.declared.state.Known.TheVariants.{Settled}
 use Rattle.account_calls.specs.Answers.{condition_calls}
-use Rattle.account_calls.specs.Calls.{Asks, Given, GivenOf, Tells, TellsBucket, always}
-use Rattle.account_calls.specs.Condition.{IsOfCondition, RefusesByCondition, TellsRefusal}
+use Rattle.account_calls.specs.Calls.{Asks, Given, Tells, TellsBucket, always}
+use Rattle.account_calls.specs.Condition.{IsOfCondition, TellsRefusal}
 use Rattle.account_calls.specs.Plan.{IsOwnReply, Plans}
 use Rattle.account_calls.specs.Refusals.{Stops}
 use Rattle.account_calls.specs.Shows.{alone}
 use Rattle.account_calls.proofs.lemmas.Ends.{after_told, calls_end, calls_in_vain, goes_on_from, met_settled}
 use Rattle.planner.specs.Objects.{MayWrite}
-use Rattle.planner.specs.Reading.{GivesNoByte}
 
 -- at most one call asks it
 few : (only_if : OnlyIf) → condition_calls only_if ≤ 1

@@ -22,7 +22,7 @@ use Rattle.s3_machine.specs.Step.{Outcome, S3Step, deletes, drop_object, drop_ob
 use Rattle.s3_machine.proofs.lemmas.StepLemmas.{delete_all_without_bucket, in_found, step_deleted, step_gone}
 use Rattle.swift_calls.specs.History.{Extends, History, present}
 use Rattle.upload_records.specs.Native.{IsSettled, s3_state}
-use Rattle.account_calls.specs.Answers.{after_step, before_step, IsStage, machine, memory, nothing_beside, part_way, steps_of, StepsThrough, unavailable, deletion}
+use Rattle.account_calls.specs.Answers.{after_step, before_step, IsStage, machine, memory, part_way, steps_of, StepsThrough, unavailable, deletion}
 use Rattle.account_calls.specs.Calls.{acl_of_bucket, always, Any, Becomes, Changes, Commits, drops_object, Given, Grows, HasBucket, Met, TellsBucket, Writes}
 use Rattle.account_calls.specs.declared.fault.PlanFault.{PlanFault}
 use Rattle.account_calls.specs.declared.fault.PlanFault.TheVariants.{Failed, Memory, Inconsistent}

@@ -1,20 +1,19 @@
 -- An object is found that a read asks for, and a piece of it is got.
-use Rattle.std.specs.Prelude.{◌≡◌, ◌≢◌, ◌≤◌, ◌<◌, ◌+◌, ◌-◌, ◌^◌, ℕ, Bool, true, false, IsTrue, cond, nat_lt, min, List, length, take, drop, Option, Some, None, Result, Ok, Err, IfOk}
+use Rattle.std.specs.Prelude.{◌≡◌, ◌≢◌, ◌≤◌, ◌<◌, ◌+◌, ◌-◌, ℕ, Bool, true, cond, nat_lt, min, List, length, take, drop, Option, Some, None, Result, Ok, Err, IfOk}
 use Rattle.std.specs.Option.{option_and_then, option_map}
 use Rattle.std.specs.FinMap.{get}
 use Rattle.std.specs.Result.{IsErrAnd}
-use Rattle.std.proofs.Common.{refl, sym, ap, subst, ◌∙◌, arith, lit≤, true≢false}
+use Rattle.std.proofs.Common.{refl, sym, ap, subst, ◌∙◌, arith, lit≤}
 use Rattle.std.proofs.lemmas.Bool.{cond-true, eq-eqb}
 use Rattle.std.proofs.lemmas.Bool.Decides.{nat_tests}
 use Rattle.std.proofs.lemmas.List.{length-drop, length-take-le}
+use Rattle.gate_base.specs.declared.page.Pair.{Pair}
 use Rattle.s3_names.specs.declared.acl.Acl.{Acl}
 use Rattle.s3_machine.specs.declared.operation.Label.{Label}
 use Rattle.s3_machine.specs.declared.operation.ObjectHead.{ObjectHead}
 use Rattle.s3_machine.specs.declared.operation.Settings.{Settings}
 use Rattle.s3_machine.specs.declared.operation.Op.{Op}
 use Rattle.s3_machine.specs.Ops.{GetObject}
-use Rattle.s3_machine.specs.declared.operation.Reply.{Reply}
-use Rattle.s3_machine.specs.declared.operation.Reply.TheVariants as reply
 use Rattle.s3_machine.specs.declared.reading.Conditions.{Conditions}
 use Rattle.s3_machine.specs.declared.reading.Judged.{Judged}
 use Rattle.s3_machine.specs.declared.reading.Judged.TheVariants.{PreconditionFailed, NotModified, InvalidRange, Bytes}
@@ -34,7 +33,6 @@ use Rattle.account_calls.specs.Answers.{judged_length, read_length, beside_of, n
 use Rattle.account_calls.specs.Calls.{Bound, always, Any, Given, GivenOf, Met, HasObject, TellsBucket, TellsObject, TellsBytes, Tells, Asks, Keeps, bytes_in}
 use Rattle.account_calls.specs.Fault.{CausesFault}
 use Rattle.account_calls.specs.Interpret.{IsShownHead}
-use Rattle.account_calls.specs.Plan.{IsOwnReply, Plans, Answered}
 use Rattle.account_calls.specs.Refusals.{shows, Stops}
 use Rattle.account_calls.specs.Shows.{alone}
 use Rattle.account_calls.specs.Told.{Told}
@@ -46,7 +44,7 @@ use Rattle.planner.specs.declared.reading.Found.{Found}
 use Rattle.planner.specs.declared.reading.Reading.{Reading}
 use Rattle.planner.specs.declared.reading.Reading.TheVariants.{Whole, Pieces}
 use Rattle.planner.specs.Objects.{TellsReadable}
-use Rattle.planner.specs.Reading.{found_reply, StopsOrFinds, IsFound, HasFound, AreFirst, HasBody, Finds, EndsOrFinds, AnsweredOrFound, reading_of, reading_end, piece_range, piece_end, TellsPiece, LeavesBytes}
+use Rattle.planner.specs.Reading.{StopsOrFinds, IsFound, HasFound, HasBody, EndsOrFinds, AnsweredOrFound, reading_of, reading_end, piece_range, piece_end, TellsPiece, LeavesBytes}
 use Rattle.planner.proofs.Readings.{found, get_judged, size_is, fits, judged_found, not_modified_is_own, failed_is_own, beyond_is_own}
 use Rattle.planner.proofs.Steps.{object_by_head}
 
@@ -54,16 +52,16 @@ same_object : {x y : Object} → Some x ≡ Some y → x ≡ y
 same_object e = cc
 
 -- the object that a read asks for is there, with the bytes of the span
-module _ (settings : Settings) (tree : SwiftAccount) (bucket key : List ℕ) (range : Option Range) (conditions : Conditions) (label : Label) (list : Acl) (head : ObjectHead)
+module _ (settings : Settings) (tree : SwiftAccount) (bucket key : List ℕ) (range : Option Range) (conditions : Conditions) (part : Option ℕ) (headers : List Pair) (none : part ≡ None) (label : Label) (list : Acl) (head : ObjectHead)
     (readable : TellsReadable bucket key label.caller list head (s3_state tree)) (span : Span) (partial : Bool) (is : judged range conditions head ≡ Bytes span partial) where
   abbrev span_found : Found
-  span_found = record { bucket = bucket; key = key; head = head; from = span.from; length = span.length; partial = partial }
+  span_found = record { bucket = bucket; key = key; head = head; from = span.from; length = span.length; partial = partial; shown = headers; parts = None }
 
-  body_of : HasBody settings (GetObject bucket key range conditions) label span_found tree
+  body_of : HasBody settings (GetObject bucket key range conditions part headers) label span_found tree
   body_of =
-      let here = found settings (s3_state tree) bucket key range conditions label list head readable in
-      let size = size_is settings (s3_state tree) bucket key range conditions label list head readable in
-      let within : IsWithin head.size partial span = fits settings (s3_state tree) bucket key range conditions label list head readable span partial is in
+      let here = found settings (s3_state tree) bucket key range conditions part headers none label list head readable in
+      let size = size_is settings (s3_state tree) bucket key range conditions part headers none label list head readable in
+      let within : IsWithin head.size partial span = fits settings (s3_state tree) bucket key range conditions part headers none label list head readable span partial is in
       let ends = within.ends in
       let sized : length (taken span here.0.bytes) ≡ span.length = length-take-le span.length (drop span.from here.0.bytes) (omega (arith, ends, size, length-drop span.from here.0.bytes)) in
       record {
@@ -71,25 +69,25 @@ module _ (settings : Settings) (tree : SwiftAccount) (bucket key : List ℕ) (ra
         sized = sized;
         has = (head, readable.there, refl, refl);
         first = λ o there. (let same : here.0 ≡ o = same_object (sym here.1 ∙ there) in ap (λ (x : Object). taken span x.bytes) same ∙ ap (λ n. take n (drop span.from o.bytes)) (sym sized));
-        step = get_judged settings (s3_state tree) bucket key range conditions label list head readable (Bytes span partial) is;
+        step = get_judged settings (s3_state tree) bucket key range conditions part headers none label list head readable (Bytes span partial) is;
         most = ap (λ n. 2 + pieces n) (ap (λ o. read_length o range conditions) here.1 ∙ ap (λ h. judged_length (judged range conditions h)) here.2 ∙ ap judged_length is);
       }
 
 -- by the head of the object
-module _ {a b : History} (settings : Settings) (bucket key : List ℕ) (range : Option Range) (conditions : Conditions) (label : Label) (list : Acl) (head : ObjectHead) (value : Option ObjectHead) (told : value ≡ Some head)
+module _ {a b : History} (settings : Settings) (bucket key : List ℕ) (range : Option Range) (conditions : Conditions) (part : Option ℕ) (headers : List Pair) (none : part ≡ None) (label : Label) (list : Acl) (head : ObjectHead) (value : Option ObjectHead) (told : value ≡ Some head)
     (allowed : may_read label.caller list ≡ true) (shown : IsShownHead (Some head)) (asks : Asks (always 1) a b IsSettled (Tells (TellsObject bucket key)) (Ok value)) where
   readable_of : (tree : SwiftAccount) → TellsBucket bucket (s3_state tree) (Some list) → TellsObject bucket key (s3_state tree) (Some head) → TellsReadable bucket key label.caller list head (s3_state tree)
   readable_of tree there object = record { in_bucket = there; allowed = allowed; there = object }
 
-  pub found_ends : (j : Judged) → judged range conditions head ≡ j → EndsOrFinds (always 1) 1 a b settings (λ s. TellsBucket bucket s (Some list)) (GetObject bucket key range conditions) label (Ok (reading_of bucket key head j))
-  found_ends PreconditionFailed is = answers (lit≤ tt) (Some head) told _ asks failed_is_own (λ tree there object. get_judged settings (s3_state tree) bucket key range conditions label list head (readable_of tree there object) PreconditionFailed is)
-  found_ends NotModified is = answers (lit≤ tt) (Some head) told _ asks (not_modified_is_own head shown) (λ tree there object. get_judged settings (s3_state tree) bucket key range conditions label list head (readable_of tree there object) NotModified is)
-  found_ends InvalidRange is = answers (lit≤ tt) (Some head) told _ asks beyond_is_own (λ tree there object. get_judged settings (s3_state tree) bucket key range conditions label list head (readable_of tree there object) InvalidRange is)
+  pub found_ends : (j : Judged) → judged range conditions head ≡ j → EndsOrFinds (always 1) 1 a b settings (λ s. TellsBucket bucket s (Some list)) (GetObject bucket key range conditions part headers) label (Ok (reading_of bucket key headers head j))
+  found_ends PreconditionFailed is = answers (lit≤ tt) (Some head) told _ asks failed_is_own (λ tree there object. get_judged settings (s3_state tree) bucket key range conditions part headers none label list head (readable_of tree there object) PreconditionFailed is)
+  found_ends NotModified is = answers (lit≤ tt) (Some head) told _ asks (not_modified_is_own head shown) (λ tree there object. get_judged settings (s3_state tree) bucket key range conditions part headers none label list head (readable_of tree there object) NotModified is)
+  found_ends InvalidRange is = answers (lit≤ tt) (Some head) told _ asks (beyond_is_own head.size) (λ tree there object. get_judged settings (s3_state tree) bucket key range conditions part headers none label list head (readable_of tree there object) InvalidRange is)
   found_ends (Bytes span partial) is = record {
     told = told_by 1 asks met_settled (λ tree sound given object.
-        body_of settings tree bucket key range conditions label list head (readable_of tree given.is (subst (TellsObject bucket key (s3_state tree)) told object)) span partial is);
-    is = judged_found bucket key range conditions head span partial shown is;
-    reads = (range, conditions, refl);
+        body_of settings tree bucket key range conditions part headers none label list head (readable_of tree given.is (subst (TellsObject bucket key (s3_state tree)) told object)) span partial is);
+    is = judged_found bucket key headers range conditions head span partial shown is;
+    reads = (range, conditions, part, refl);
   }
 
 -- a call that told nothing
@@ -118,11 +116,11 @@ answered_or_found most a b settings op label none alike (Err fault) stops plans 
 answered_or_found most a b settings op label none alike (Ok (Pieces it)) stops finds = finds
 
 -- no bytes were got with it
-pub leaves_by : (bucket key : List ℕ) (head : ObjectHead) (j : Judged) → LeavesBytes (reading_of bucket key head j)
-leaves_by bucket key head PreconditionFailed = refl
-leaves_by bucket key head NotModified = refl
-leaves_by bucket key head InvalidRange = refl
-leaves_by bucket key head (Bytes span partial) = tt
+pub leaves_by : (bucket key : List ℕ) (headers : List Pair) (head : ObjectHead) (j : Judged) → LeavesBytes (reading_of bucket key headers head j)
+leaves_by bucket key headers head PreconditionFailed = refl
+leaves_by bucket key headers head NotModified = refl
+leaves_by bucket key headers head InvalidRange = refl
+leaves_by bucket key headers head (Bytes span partial) = tt
 
 pub leaves_end : (end : Result Reading PlanFault) → IfOk end LeavesBytes → LeavesBytes (reading_end end)
 leaves_end (Ok reading) leaves = leaves

@@ -2,7 +2,11 @@
 use Rattle.std.specs.Prelude.{ℕ, Bool, true, false, List}
 use Rattle.s3_machine.specs.declared.code.Code.TheVariants.{BucketAlreadyOwnedByYou}
 use Rattle.s3_machine.specs.declared.operation.Reply.TheVariants.{Refused}
-use Rattle.s3_machine.specs.Replies.{Made, Buckets}
+use Rattle.s3_machine.specs.Replies.{Made}
+use Rattle.s3_machine.specs.Buckets.{bucket_page}
+use Rattle.s3_machine.specs.Step.{buckets_reply}
+use Rattle.s3_machine.specs.declared.buckets.BucketListing.{BucketListing}
+use Rattle.s3_machine.proofs.lemmas.Buckets.{page_has}
 use Rattle.std.specs.List.{All}
 use Rattle.s3_machine.specs.declared.items.BucketItem.{BucketItem}
 use Rattle.s3_machine.specs.Shown.{IsShownBucket}
@@ -28,5 +32,5 @@ pub set_is_own : (told : Bool) → IsOwnReply (set_reply told)
 set_is_own true = record { showable = tt; no_memory = λ e. cc; no_failure = λ e. cc; no_inconsistency = λ e. cc }
 set_is_own false = record { showable = tt; no_memory = λ e. cc; no_failure = λ e. cc; no_inconsistency = λ e. cc }
 
-pub buckets_is_own : (items : List BucketItem) → All IsShownBucket items → IsOwnReply (Buckets items)
-buckets_is_own items dated = record { showable = dated; no_memory = λ e. cc; no_failure = λ e. cc; no_inconsistency = λ e. cc }
+pub buckets_is_own : (asked : BucketListing) (items : List BucketItem) → All IsShownBucket items → IsOwnReply (buckets_reply asked (bucket_page asked items))
+buckets_is_own asked items dated = record { showable = page_has IsShownBucket asked items dated; no_memory = λ e. cc; no_failure = λ e. cc; no_inconsistency = λ e. cc }

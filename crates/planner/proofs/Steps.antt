@@ -13,7 +13,7 @@ use Rattle.s3_machine.specs.declared.operation.Label.{Label}
 use Rattle.s3_machine.specs.declared.operation.ObjectHead.{ObjectHead}
 use Rattle.s3_machine.specs.declared.operation.Settings.{Settings}
 use Rattle.s3_machine.specs.Ops.{PutObject, DeleteObject}
-use Rattle.s3_machine.specs.declared.operation.Reply.TheVariants as reply
+use Rattle.s3_machine.specs.Replies as reply
 use Rattle.s3_machine.specs.OnlyIf.{refusal}
 use Rattle.s3_machine.specs.State.{Object, Bucket, State}
 use Rattle.s3_machine.specs.Step.{S3Step, etag_of_object, is_other_acl, head_of, refusal_in}
@@ -39,8 +39,8 @@ object_by_head (Some x) head e = (x, refl, cc)
 module _ (settings : Settings) (state : State) (bucket key : List ℕ) (label : Label) where
   -- the bucket is missing
   module _ (told : TellsBucket bucket state None) where
-    pub put_missing : (acl : Option Acl) (content_type : List ℕ) (meta : List Pair) (body : List ℕ) (only_if : OnlyIf) → S3Step settings state (PutObject bucket key acl content_type meta body only_if) label (reply.Refused NoSuchBucket) state
-    put_missing acl content_type meta body only_if = put_without_bucket settings state bucket key label (missing_of bucket state told) acl content_type meta body only_if
+    pub put_missing : (acl : Option Acl) (content_type : List ℕ) (meta : List Pair) (body : List ℕ) (only_if : OnlyIf) (checksum : Option Pair) → S3Step settings state (PutObject bucket key acl content_type meta body only_if checksum) label (reply.Refused NoSuchBucket) state
+    put_missing acl content_type meta body only_if checksum = put_without_bucket settings state bucket key label (missing_of bucket state told) acl content_type meta body only_if checksum
 
     pub delete_missing : (only_if : OnlyIf) → S3Step settings state (DeleteObject bucket key only_if) label (reply.Refused NoSuchBucket) state
     delete_missing only_if = delete_without_bucket settings state bucket key label (missing_of bucket state told) only_if
@@ -54,23 +54,24 @@ module _ (settings : Settings) (state : State) (bucket key : List ℕ) (label : 
     held_in : (only_if : OnlyIf) (refused : Option Code) → TellsRefusal bucket key only_if state refused → refusal_in only_if key it.0 ≡ refused
     held_in only_if refused is = sym (ap (λ v. refusal only_if (option_map etag_of_object (object_at v key))) it.1) ∙ is
 
-    pub put_other : (acl : Option Acl) (content_type : List ℕ) (meta : List Pair) (body : List ℕ) (only_if : OnlyIf) → is_other_acl acl list ≡ true
-        → S3Step settings state (PutObject bucket key acl content_type meta body only_if) label (reply.Refused NotImplemented) state
-    put_other acl content_type meta body only_if other =
-        put_with_another_acl settings state bucket key label it.0 it.1 acl content_type meta body only_if (ap (is_other_acl acl) it.2 ∙ other)
+    pub put_other : (acl : Option Acl) (content_type : List ℕ) (meta : List Pair) (body : List ℕ) (only_if : OnlyIf) (checksum : Option Pair) → is_other_acl acl list ≡ true
+        → S3Step settings state (PutObject bucket key acl content_type meta body only_if checksum) label (reply.Refused NotImplemented) state
+    put_other acl content_type meta body only_if checksum other =
+        put_with_another_acl settings state bucket key label it.0 it.1 acl content_type meta body only_if checksum (ap (is_other_acl acl) it.2 ∙ other)
 
-    pub put_refused : (acl : Option Acl) (content_type : List ℕ) (meta : List Pair) (body : List ℕ) (only_if : OnlyIf) (code : Code) → is_other_acl acl list ≡ false → TellsRefusal bucket key only_if state (Some code)
-        → S3Step settings state (PutObject bucket key acl content_type meta body only_if) label (reply.Refused code) state
+    pub put_refused : (acl : Option Acl) (content_type : List ℕ) (meta : List Pair) (body : List ℕ) (only_if : OnlyIf) (checksum : Option Pair) (code : Code) → is_other_acl acl list ≡ false → TellsRefusal bucket key only_if state (Some code)
+        → S3Step settings state (PutObject bucket key acl content_type meta body only_if checksum) label (reply.Refused code) state
     unfolding held_in
-    put_refused acl content_type meta body only_if code same is =
-        put_held settings state bucket key label it.0 it.1 acl content_type meta body only_if code (ap (is_other_acl acl) it.2 ∙ same) (held_in only_if (Some code) is)
+    put_refused acl content_type meta body only_if checksum code same is =
+        put_held settings state bucket key label it.0 it.1 acl content_type meta body only_if checksum code (ap (is_other_acl acl) it.2 ∙ same) (held_in only_if (Some code) is)
 
-    pub put_stored : (acl : Option Acl) (content_type : List ℕ) (meta : List Pair) (body etag : List ℕ) (only_if : OnlyIf) → is_other_acl acl list ≡ false → TellsRefusal bucket key only_if state None → etag ≡ body_etag body
-        → S3Step settings state (PutObject bucket key acl content_type meta body only_if) label (reply.Stored etag) (puts_object bucket key content_type meta body label.moment state)
+    pub put_stored : (acl : Option Acl) (content_type : List ℕ) (meta : List Pair) (body etag : List ℕ) (only_if : OnlyIf) (checksum shown : Option Pair) → is_other_acl acl list ≡ false → TellsRefusal bucket key only_if state None → etag ≡ body_etag body
+        → shown ≡ checksum → S3Step settings state (PutObject bucket key acl content_type meta body only_if checksum) label (reply.Stored etag shown) (puts_object bucket key content_type meta body label.moment state)
     unfolding held_in
-    put_stored acl content_type meta body etag only_if same met is =
-        subst (λ e. S3Step settings state (PutObject bucket key acl content_type meta body only_if) label (reply.Stored e) (puts_object bucket key content_type meta body label.moment state)) (sym is)
-        (step_stored settings state bucket key label it.0 it.1 acl content_type meta body only_if (ap (is_other_acl acl) it.2 ∙ same) (held_in only_if None met))
+    put_stored acl content_type meta body etag only_if checksum shown same met is as_compared =
+        subst {A = List ℕ × Option Pair} (λ x. S3Step settings state (PutObject bucket key acl content_type meta body only_if checksum) label (reply.Stored x.0 x.1) (puts_object bucket key content_type meta body label.moment state))
+        (λ i. (sym is i, sym as_compared i))
+        (step_stored settings state bucket key label it.0 it.1 acl content_type meta body only_if checksum (ap (is_other_acl acl) it.2 ∙ same) (held_in only_if None met))
 
     pub delete_refused : (only_if : OnlyIf) (code : Code) → TellsRefusal bucket key only_if state (Some code) → S3Step settings state (DeleteObject bucket key only_if) label (reply.Refused code) state
     unfolding held_in

@@ -1,6 +1,7 @@
 -- A read stops at the call that shows why it is refused.
-use Rattle.std.specs.Prelude.{◌≡◌, ◌≤◌, ◌+◌, ℕ, List, [], Option, Result, Ok, Err}
+use Rattle.std.specs.Prelude.{◌≤◌, ◌+◌, ℕ, List, [], Option, None, Result, Ok, Err}
 use Rattle.std.proofs.Common.{arith}
+use Rattle.gate_base.specs.declared.page.Pair.{Pair}
 use Rattle.s3_machine.specs.declared.operation.ObjectHead.{ObjectHead}
 use Rattle.s3_machine.specs.declared.reading.Conditions.{Conditions}
 use Rattle.s3_machine.specs.declared.reading.Judged.{Judged}
@@ -25,20 +26,20 @@ module _ {T : Type 0} {given : SwiftAccount → Type 0} {P : SwiftAccount → Sw
   near = asks.grows.calls
 
   -- by the head of the object
-  pub found_stops : (bucket key : List ℕ) (head : ObjectHead) (j : Judged) → StopsOrFinds 1 a b (Ok (reading_of bucket key head j))
-  found_stops bucket key head PreconditionFailed = record { so = omega (arith, near) }
-  found_stops bucket key head NotModified = record { so = omega (arith, near) }
-  found_stops bucket key head InvalidRange = record { so = omega (arith, near) }
-  found_stops bucket key head (Bytes span partial) = tt
+  pub found_stops : (bucket key : List ℕ) (shown : List Pair) (head : ObjectHead) (j : Judged) → StopsOrFinds 1 a b (Ok (reading_of bucket key shown head j))
+  found_stops bucket key shown head PreconditionFailed = record { so = omega (arith, near) }
+  found_stops bucket key shown head NotModified = record { so = omega (arith, near) }
+  found_stops bucket key shown head InvalidRange = record { so = omega (arith, near) }
+  found_stops bucket key shown head (Bytes span partial) = tt
 
-  headed_by : (head : ObjectHead) (j : Judged) → Stops alone 1 a b (Ok (read_by head (λ span. []) j))
-  headed_by head PreconditionFailed = record { so = omega (arith, near) }
-  headed_by head NotModified = record { so = omega (arith, near) }
-  headed_by head InvalidRange = record { so = omega (arith, near) }
-  headed_by head (Bytes span partial) = record { so = tt }
+  headed_by : (shown : List Pair) (head : ObjectHead) (j : Judged) → Stops alone 1 a b (Ok (read_by None shown head (λ span. []) j))
+  headed_by shown head PreconditionFailed = record { so = omega (arith, near) }
+  headed_by shown head NotModified = record { so = omega (arith, near) }
+  headed_by shown head InvalidRange = record { so = omega (arith, near) }
+  headed_by shown head (Bytes span partial) = record { so = tt }
 
-  pub headed_stops : (range : Option Range) (conditions : Conditions) (head : ObjectHead) → Stops alone 1 a b (Ok (headed_reply range conditions head))
-  headed_stops range conditions head = headed_by head (judged range conditions head)
+  pub headed_stops : (range : Option Range) (conditions : Conditions) (shown : List Pair) (head : ObjectHead) → Stops alone 1 a b (Ok (headed_reply range conditions shown head))
+  headed_stops range conditions shown head = headed_by shown head (judged range conditions head)
 
 -- a call was made, and then the rest of it stops
 pub finds_behind : {T : Type 0} {asked : SwiftAccount → Type 0} {P : SwiftAccount → SwiftAccount → T → Type 0} {value : Result T PlanFault} {a b : History} (c : History) → Asks (always 1) a b asked P value

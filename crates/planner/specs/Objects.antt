@@ -1,5 +1,6 @@
 -- What the calls before the last one told of an object that is read, and what stands of one that was put. Source: this profile.
-use Rattle.std.specs.Prelude.{◌≡◌, ℕ, true, IsTrue, List, [], Option, Some}
+use Rattle.std.specs.Prelude.{◌≡◌, ℕ, true, List, [], Option, Some, None}
+use Rattle.gate_base.specs.declared.page.Pair.{Pair}
 use Rattle.gate_base.specs.declared.caller.Caller.{Caller}
 use Rattle.s3_names.specs.declared.acl.Acl.{Acl}
 use Rattle.s3_machine.specs.declared.code.Code.{Code}
@@ -32,9 +33,9 @@ pub record MayWrite (bucket key : List ℕ) (list : Acl) (only_if : OnlyIf) (ref
   pub in_bucket : TellsBucket bucket state (Some list)
   pub told : TellsRefusal bucket key only_if state refused
 
--- the reply to HeadObject, by the head of the object
-abbrev pub headed_reply : Option Range → Conditions → ObjectHead → Reply
-headed_reply range conditions head = read_by head (λ span. []) (judged range conditions head)
+-- the reply to HeadObject where no part is asked for, by the headers that are shown and the head of the object
+abbrev pub headed_reply : Option Range → Conditions → List Pair → ObjectHead → Reply
+headed_reply range conditions shown head = read_by None shown head (λ span. []) (judged range conditions head)
 
 -- ---- what stands, over every observable store, whether its account is consistent or not
 

@@ -1,6 +1,7 @@
 -- A read of an object before its bytes are got, and piece by piece. Source: this profile.
 use Rattle.s3_machine.specs.declared.operation.Reply.TheVariants as reply_as
 use Rattle.std.specs.Prelude.{◌≡◌, ◌==◌, ◌≤◌, ◌+◌, ◌-◌, ℕ, IsTrue, IfOk, if◌then◌else◌, List, [], length, take, drop, Option, None, Some, Result, Ok, Err, Bool, true, false}
+use Rattle.gate_base.specs.declared.page.Pair.{Pair}
 use Rattle.s3_machine.specs.declared.operation.Label.{Label}
 use Rattle.s3_machine.specs.declared.operation.ObjectHead.{ObjectHead}
 use Rattle.s3_machine.specs.declared.operation.Op.{Op}
@@ -36,11 +37,11 @@ use Rattle.planner.specs.declared.reading.Reading.TheVariants.{Whole, Pieces}
 
 -- the reply that gives these bytes of the object
 abbrev pub found_reply : Found → List ℕ → Reply
-found_reply found body = Object found.head found.from found.length found.partial body
+found_reply found body = Object found.head found.from found.length found.partial body found.shown found.parts
 
 -- the object is the one that the operation reads
 abbrev pub IsReadBy : Op → Found → Type 0
-IsReadBy op found = (range : Option Range) × (conditions : Conditions) × (op ≡ GetObject found.bucket found.key range conditions)
+IsReadBy op found = (range : Option Range) × (conditions : Conditions) × (part : Option ℕ) × (op ≡ GetObject found.bucket found.key range conditions part found.shown)
 
 -- the bytes that are asked for: what is replied with them can be shown, and they are bytes of the object
 pub record IsFound (found : Found) : Type 0 where
@@ -88,13 +89,13 @@ StopsOrFinds before old new (Ok (Whole reply)) = Stops alone before old new (Ok 
 StopsOrFinds before old new (Ok (Pieces found)) = Unit {0}
 StopsOrFinds before old new (Err fault) = Unit {0}
 
--- what a read comes to, by the head of an object that may be read
-abbrev pub reading_of : List ℕ → List ℕ → ObjectHead → Judged → Reading
-reading_of bucket key head judged_as.PreconditionFailed = Whole (Refused code.PreconditionFailed)
-reading_of bucket key head judged_as.NotModified = Whole (NotModified head)
-reading_of bucket key head judged_as.InvalidRange = Whole (Refused code.InvalidRange)
-reading_of bucket key head (judged_as.Bytes span partial) =
-    Pieces (record { bucket = bucket; key = key; head = head; from = span.from; length = span.length; partial = partial })
+-- what a read comes to that asks for no part, by the head of an object that may be read
+abbrev pub reading_of : List ℕ → List ℕ → List Pair → ObjectHead → Judged → Reading
+reading_of bucket key shown head judged_as.PreconditionFailed = Whole (Refused code.PreconditionFailed)
+reading_of bucket key shown head judged_as.NotModified = Whole (NotModified head)
+reading_of bucket key shown head judged_as.InvalidRange = Whole (Refused (code.InvalidRange (Some head.size)))
+reading_of bucket key shown head (judged_as.Bytes span partial) =
+    Pieces (record { bucket = bucket; key = key; head = head; from = span.from; length = span.length; partial = partial; shown = shown; parts = None })
 
 -- the reply where no object was found
 abbrev pub reading_end : Result Reading PlanFault → Reading
@@ -105,7 +106,8 @@ reading_end (Err fault) = Whole (reply_of (Err fault))
 
 -- the operation reads an object
 abbrev pub ReadsBytes : Op → Type 0
-ReadsBytes op = (bucket : List ℕ) × (key : List ℕ) × (range : Option Range) × (conditions : Conditions) × (op ≡ GetObject bucket key range conditions)
+ReadsBytes op = (bucket : List ℕ) × (key : List ℕ) × (range : Option Range) × (conditions : Conditions) × (part : Option ℕ) × (shown : List Pair)
+    × (op ≡ GetObject bucket key range conditions part shown)
 
 -- whether the reply gives bytes of an object
 abbrev pub gives_bytes : Reply → Bool

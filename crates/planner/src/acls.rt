@@ -2,7 +2,7 @@
 ghost use Rattle.std.specs.Prelude.{◌≡◌, Some, IfOk};
 ghost use Rattle.s3_machine.specs.declared.operation.Label.{Label};
 ghost use Rattle.s3_machine.specs.declared.operation.Op.TheVariants.{OnObjects};
-ghost use Rattle.s3_machine.specs.declared.operation.ObjectsOp.TheVariants.{GetBucketAcl, GetObjectAcl, PutBucketAcl};
+ghost use Rattle.s3_machine.specs.declared.operation.ObjectsOp.TheVariants.{GetBucketAcl, GetObjectAcl, PutBucketAcl, PutObjectAcl};
 ghost use Rattle.account_calls.specs.Calls.{always, Any, Given, TellsBucket};
 ghost use Rattle.account_calls.specs.Lent.{Stays};
 ghost use Rattle.account_calls.specs.declared.state.Known.TheVariants as known;
@@ -13,7 +13,7 @@ ghost use Rattle.planner.specs.Buckets.{set_reply};
 ghost use Rattle.planner.specs.Reading.{GivesNoByte};
 
 use account_calls::{PlanFault, Settled, head_bucket, post_bucket_container};
-use s3_machine::{BucketAcl, Code, ObjectName, ObjectsReply, Reply};
+use s3_machine::{BucketAcl, Code, ObjectAcl, ObjectName, ObjectsReply, Reply, is_other_acl};
 use s3_names::{Acl, BucketName};
 use swift_calls::Swift;
 
@@ -99,4 +99,49 @@ fn plan_object_acl_within<W: Swift>(
         return Ok(Reply::Refused(Code::NoSuchKey));
     };
     Ok(Reply::OfObjects(ObjectsReply::AclOf(list)))
+}
+
+/// PutObjectAcl: HEAD of the bucket's container, then HEAD of the object's file. At most two calls, none of which commits: an object
+/// has the list of its bucket, and another can't be set. The faults are those of the calls.
+pub(crate) fn put_object_acl<W: Swift>(
+    state: &mut Settled<'_, W>,
+    set: &ObjectAcl,
+) -> Result<Reply, PlanFault>
+    ensures stays { Stays state.old state.new }
+    ensures plans { (label : Label)
+        → Plans (always 2) (W.history state.old.store.now) (W.history state.new.store.now)
+        state.old.settings.now (Given Any) (OnObjects (PutObjectAcl set.now)) label known.Settled
+        result }
+    ensures stops { Stops alone 0 (W.history state.old.store.now) (W.history state.new.store.now)
+        result }
+    ensures bodiless { IfOk result GivesNoByte }
+{
+    let Some(list) = head_bucket(state, &set.bucket)? else {
+        return Ok(Reply::Refused(Code::NoSuchBucket));
+    };
+    plan_put_object_acl_within(state, set, list)
+}
+
+/// The rest of PutObjectAcl, in a bucket that has this access control list.
+fn plan_put_object_acl_within<W: Swift>(
+    state: &mut Settled<'_, W>,
+    set: &ObjectAcl,
+    list: Acl,
+) -> Result<Reply, PlanFault>
+    ensures stays { Stays state.old state.new }
+    ensures plans { (label : Label)
+        → Plans (always 1) (W.history state.old.store.now) (W.history state.new.store.now)
+        state.old.settings.now (Given (λ s. TellsBucket set.now.bucket s (Some list)))
+        (OnObjects (PutObjectAcl set.now)) label known.Settled result }
+    ensures stops { Stops alone 1 (W.history state.old.store.now) (W.history state.new.store.now)
+        result }
+    ensures bodiless { IfOk result GivesNoByte }
+{
+    let Some(_) = account_calls::head_object(state, &set.bucket, &set.key)? else {
+        return Ok(Reply::Refused(Code::NoSuchKey));
+    };
+    if is_other_acl(Some(set.acl), list) {
+        return Ok(Reply::Refused(Code::AccessControlListNotSupported));
+    }
+    Ok(Reply::Done)
 }

@@ -4,6 +4,8 @@ ghost use Rattle.s3_machine.specs.declared.operation.Label.{Label};
 ghost use Rattle.s3_machine.specs.declared.operation.Op.TheVariants.{OnObjects};
 ghost use Rattle.s3_machine.specs.declared.operation.ObjectsOp.TheVariants.{CreateBucket, DeleteBucket, GetLocation, HeadBucket, ListBuckets};
 ghost use Rattle.s3_machine.specs.Replies.{Made};
+ghost use Rattle.s3_machine.specs.Buckets.{bucket_page};
+ghost use Rattle.s3_machine.specs.Step.{buckets_reply};
 ghost use Rattle.swift_calls.specs.History.{present};
 ghost use Rattle.account_calls.specs.Answers.{most_calls};
 ghost use Rattle.account_calls.specs.Calls.{always, by_account, Any, Given, GivenOf, LacksBucket};
@@ -21,8 +23,11 @@ use account_calls::{
     Dropped, PlanFault, Settled, delete_bucket_container, head_bucket, purge, put_bucket_container,
     put_container_beside,
 };
-use gate_base::{Bytes, Copying};
-use s3_machine::{BucketAcl, Code, Label, ObjectsReply, Reply, may_read};
+use gate_base::{Bytes, Copying, List};
+use s3_machine::{
+    BucketAcl, BucketItem, BucketListing, BucketPage, Code, Label, ObjectsReply, Proper, Reply,
+    bucket_page, may_read,
+};
 use s3_names::BucketName;
 use swift_calls::Swift;
 use upload_records::{segments_container, uploads_container};
@@ -178,18 +183,35 @@ fn end_create_bucket_plan(end: Result<(), PlanFault>, bucket: Bytes) -> Result<R
     }
 }
 
-/// ListBuckets: GET of the account page by page, then HEAD of each bucket's container. At most as many calls as there are
-/// pages and buckets, none of which commits. The faults are those of the calls.
-pub(crate) fn list_buckets<W: Swift>(state: &mut Settled<'_, W>) -> Result<Reply, PlanFault>
+/// ListBuckets: GET of the account page by page, then HEAD of each bucket's container, whichever are asked for. At most as many calls
+/// as there are pages and buckets, none of which commits. The faults are those of the calls.
+pub(crate) fn list_buckets<W: Swift>(
+    state: &mut Settled<'_, W>,
+    asked: Proper<BucketListing>,
+) -> Result<Reply, PlanFault>
     ensures stays { Stays state.old state.new }
     ensures plans { (label : Label)
-        → Plans (most_calls (OnObjects ListBuckets) (present (W.history state.old.store.now)))
+        → Plans (most_calls (OnObjects (ListBuckets asked))
+        (present (W.history state.old.store.now)))
         (W.history state.old.store.now) (W.history state.new.store.now) state.old.settings.now
-        (Given Any) (OnObjects ListBuckets) label known.Settled result }
+        (Given Any) (OnObjects (ListBuckets asked)) label known.Settled result }
     ensures unrefused { Unrefused result }
     ensures bodiless { IfOk result GivesNoByte }
 {
-    Ok(Reply::OfObjects(ObjectsReply::Buckets(account_calls::list_buckets(state)?)))
+    let all = account_calls::list_buckets(state)?;
+    Ok(end_list_buckets_plan(asked.into_value(), all))
+}
+
+/// The reply to ListBuckets, of all buckets that there are.
+fn end_list_buckets_plan(asked: BucketListing, all: List<BucketItem>) -> Reply
+    ensures { result ≡ buckets_reply asked (bucket_page asked all) }
+{
+    let (items, truncated) = bucket_page(&asked, all);
+    Reply::OfObjects(ObjectsReply::Buckets(BucketPage {
+        asked,
+        items,
+        truncated,
+    }))
 }
 
 /// DeleteBucket: DELETE of the container, which commits. At most one call. The faults are those of the call.

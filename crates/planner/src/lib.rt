@@ -9,6 +9,7 @@ mod listing;
 mod objects;
 mod operation;
 mod reading;
+mod settings;
 
 pub use operation::answer;
 pub use reading::{Found, Reading, find_object, read_piece};

@@ -22,10 +22,10 @@ ghost use Rattle.planner.specs.Objects.{MayWrite, headed_reply};
 ghost use Rattle.planner.specs.Reading.{GivesNoByte};
 
 use account_calls::{PlanFault, Settled, condition_refusal, head_bucket, stored_end};
-use gate_base::Bytes;
+use gate_base::{Bytes, Copying};
 use s3_machine::{
     Code, Judged, Label, ObjectBytes, ObjectDeletion, ObjectHead, ObjectName, ObjectPut,
-    ObjectRead, Reply, is_other_acl, judge, may_read,
+    ObjectRead, Reply, StoredBytes, copy_option, is_other_acl, judge, may_read,
 };
 use s3_names::Acl;
 use std::alloc::Global;
@@ -153,19 +153,25 @@ fn plan_put_object_bytes<W: Swift>(
 {
     let alloc = state.alloc;
     let text = Bytes::from_slice(alloc, etag)?;
-    stored_end(account_calls::put_object(state, put, etag, label), text)
+    let checksum = copy_option(&put.checksum)?;
+    let stored = StoredBytes {
+        etag: text,
+        checksum,
+    };
+    stored_end(account_calls::put_object(state, put, etag, label), stored)
 }
 
 /// HeadObject: HEAD of the bucket's container, then HEAD of the object's file. At most two calls, none of which commits.
 /// The faults are those of the calls.
 pub(crate) fn head_object<W: Swift>(
     state: &mut Settled<'_, W>,
-    read: &ObjectRead,
+    read: ObjectRead,
     label: &Label,
 ) -> Result<Reply, PlanFault>
+    requires planned { read.part ≡ None }
     ensures stays { Stays state.old state.new }
     ensures plans { Plans (always 2) (W.history state.old.store.now) (W.history state.new.store.now)
-        state.old.settings.now (Given Any) (OnObjects (HeadObject read.now))
+        state.old.settings.now (Given Any) (OnObjects (HeadObject read))
         label.now known.Settled result }
     ensures stops { Stops alone 0 (W.history state.old.store.now) (W.history state.new.store.now) result }
     ensures bodiless { IfOk result GivesNoByte }
@@ -179,14 +185,15 @@ pub(crate) fn head_object<W: Swift>(
 /// The rest of HeadObject, in a bucket that has this access control list.
 fn plan_head_object_within<W: Swift>(
     state: &mut Settled<'_, W>,
-    read: &ObjectRead,
+    read: ObjectRead,
     list: Acl,
     label: &Label,
 ) -> Result<Reply, PlanFault>
+    requires planned { read.part ≡ None }
     ensures stays { Stays state.old state.new }
     ensures plans { Plans (always 1) (W.history state.old.store.now) (W.history state.new.store.now)
-        state.old.settings.now (Given (λ s. TellsBucket read.now.bucket s (Some list)))
-        (OnObjects (HeadObject read.now)) label.now known.Settled result }
+        state.old.settings.now (Given (λ s. TellsBucket read.bucket s (Some list)))
+        (OnObjects (HeadObject read)) label.now known.Settled result }
     ensures stops { Stops alone 1 (W.history state.old.store.now) (W.history state.new.store.now) result }
     ensures bodiless { IfOk result GivesNoByte }
 {
@@ -200,23 +207,25 @@ fn plan_head_object_within<W: Swift>(
     Ok(end_head_object_plan(alloc, read, head))
 }
 
-/// The reply to HeadObject for an object with this head: what GetObject is answered, without the bytes.
-fn end_head_object_plan(alloc: Global, read: &ObjectRead, head: ObjectHead) -> Reply
+/// The reply to HeadObject for an object with this head, where no part is asked for: what GetObject is answered, without the bytes.
+fn end_head_object_plan(alloc: Global, read: ObjectRead, head: ObjectHead) -> Reply
     requires shown { IsShownHead (Some head) }
     ensures own { IsOwnReply result }
-    ensures reply { result ≡ headed_reply read.now.range read.now.conditions head }
+    ensures reply { result ≡ headed_reply read.range read.conditions read.shown head }
     ensures bodiless { GivesNoByte result }
 {
     match judge(read.range, &read.conditions, &head) {
         Judged::PreconditionFailed => Reply::Refused(Code::PreconditionFailed),
         Judged::NotModified => Reply::NotModified(head),
-        Judged::InvalidRange => Reply::Refused(Code::InvalidRange),
+        Judged::InvalidRange => Reply::Refused(Code::InvalidRange(Some(head.size))),
         Judged::Bytes { span, partial } => Reply::Object(ObjectBytes {
             head,
             from: span.from,
             length: span.length,
             partial,
             body: Bytes::new(alloc),
+            shown: read.shown,
+            parts: None,
         }),
     }
 }

@@ -1,5 +1,6 @@
 //! GetObject, whose bytes are got piece by piece: what it comes to before the first of them, and a piece.
 ghost use Rattle.std.specs.Prelude.{◌≡◌, ◌≢◌, ◌<◌, ◌≤◌, ◌+◌, length, Err, Ok, Some, IfOk};
+ghost use Rattle.s3_machine.specs.Parts.{AsksNoPart};
 ghost use Rattle.s3_machine.specs.Reading.{judged};
 ghost use Rattle.s3_machine.specs.declared.operation.Op.TheVariants.{GetObject};
 ghost use Rattle.swift_calls.specs.History.{present};
@@ -11,13 +12,13 @@ ghost use Rattle.account_calls.specs.declared.fault.PlanFault.TheVariants.{Faile
 ghost use Rattle.planner.specs.Reading.{StopsOrFinds, AnsweredOrFound, EndsOrFinds, GivesPieceOf, HasFound, HasNoByte, IsFound, TellsPiece, piece_end, reading_end, reading_of, LeavesBytes};
 
 use account_calls::{PlanFault, Settled, head_bucket, reply_of};
-use gate_base::{Bytes, Copying};
+use gate_base::{Bytes, Copying, List, Pair};
 use s3_machine::{Code, Judged, Label, ObjectHead, ObjectRead, Reply, judge, may_read};
 use s3_names::{Acl, BucketName, Key};
 use swift_calls::Swift;
 
 /// The bytes of an object that a read is answered: the object's name and head, and `length` of its bytes from the byte `from`
-/// on; `partial` where a range was asked for.
+/// on; `partial` where a range was asked for. `shown` and `parts` are as in the reply.
 #[derive(Debug, Drop)]
 pub struct Found {
     pub bucket: BucketName,
@@ -26,6 +27,8 @@ pub struct Found {
     pub from: u64,
     pub length: u64,
     pub partial: bool,
+    pub shown: List<Pair>,
+    pub parts: Option<u32>,
 }
 
 /// What a request comes to before the first byte of an object is got.
@@ -39,8 +42,9 @@ pub enum Reading {
 
 /// Finds the object of GetObject, whose bytes are still to be got ([`read_piece`]): HEAD of the bucket's container, then HEAD of the
 /// object's file. At most two calls, which leave the account. Or what it comes to is the whole reply, as of an operation that is
-/// answered ([`crate::answer`]).
+/// answered ([`crate::answer`]). No part is asked for.
 pub fn find_object<W: Swift>(state: &mut Settled<'_, W>, read: ObjectRead, label: &Label) -> Reading
+    requires planned { AsksNoPart (GetObject read) }
     ensures stays { Stays state.old state.new }
 
     // The calls amount to the operation, or they left the state and found what is asked for.
@@ -77,6 +81,7 @@ fn found_object<W: Swift>(
     read: ObjectRead,
     label: &Label,
 ) -> Result<Reading, PlanFault>
+    requires planned { AsksNoPart (GetObject read) }
     ensures stays { Stays state.old state.new }
     ensures finds { EndsOrFinds (most_calls (GetObject read)
         (present (W.history state.old.store.now))) 2 (W.history state.old.store.now)
@@ -99,6 +104,7 @@ fn found_object_within<W: Swift>(
     list: Acl,
     label: &Label,
 ) -> Result<Reading, PlanFault>
+    requires planned { AsksNoPart (GetObject read) }
     ensures stays { Stays state.old state.new }
     ensures finds { EndsOrFinds (always 1) 1 (W.history state.old.store.now)
         (W.history state.new.store.now) state.old.settings.now
@@ -117,15 +123,17 @@ fn found_object_within<W: Swift>(
     Ok(reading_of(read, head))
 }
 
-/// What a read comes to, by the head of an object that may be read.
+/// What a read comes to that asks for no part, by the head of an object that may be read.
 fn reading_of(read: ObjectRead, head: ObjectHead) -> Reading
-    ensures { result ≡ reading_of read.bucket read.key head (judged read.range read.conditions
-        head) }
+    ensures { result ≡ reading_of read.bucket read.key read.shown head
+        (judged read.range read.conditions head) }
 {
     match judge(read.range, &read.conditions, &head) {
         Judged::PreconditionFailed => { Reading::Whole(Reply::Refused(Code::PreconditionFailed)) }
         Judged::NotModified => Reading::Whole(Reply::NotModified(head)),
-        Judged::InvalidRange => Reading::Whole(Reply::Refused(Code::InvalidRange)),
+        Judged::InvalidRange => {
+            Reading::Whole(Reply::Refused(Code::InvalidRange(Some(head.size))))
+        }
         Judged::Bytes { span, partial } => Reading::Pieces(Found {
             bucket: read.bucket,
             key: read.key,
@@ -133,6 +141,8 @@ fn reading_of(read: ObjectRead, head: ObjectHead) -> Reading
             from: span.from,
             length: span.length,
             partial,
+            shown: read.shown,
+            parts: None,
         }),
     }
 }

@@ -96,6 +96,7 @@ first_asked query = record {
   max = most_keys query;
   url = is_asked query (codes "encoding-type");
   owner = false;
+  versions = false;
 }
 
 -- ListObjectsV2
@@ -110,4 +111,5 @@ second_asked query = record {
   max = most_keys query;
   url = is_asked query (codes "encoding-type");
   owner = bytes_eq (text_at (codes "fetch-owner") query) (codes "true");
+  versions = false;
 }

@@ -185,6 +185,7 @@ pub fn first_asked(alloc: Global, query: &[Pair]) -> Result<Asked, Memory>
         max: most_keys(query),
         url: is_asked(query, b"encoding-type"),
         owner: false,
+        versions: false,
     })
 }
 
@@ -206,5 +207,6 @@ pub fn second_asked(alloc: Global, query: &[Pair]) -> Result<Asked, Memory>
         max: most_keys(query),
         url: is_asked(query, b"encoding-type"),
         owner: text_at(query, b"fetch-owner") == b"true".as_slice(),
+        versions: false,
     })
 }

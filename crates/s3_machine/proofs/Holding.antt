@@ -1,5 +1,5 @@
 -- An object under a key stays there, whatever it becomes, as long as neither it nor its bucket is deleted.
-use Rattle.std.specs.Prelude.{◌≡◌, ◌≢◌, ◌⊎◌, ℕ, Bool, true, false, not, ◌&&◌, bytes_eq, nat_lt, List, length, map, Option, Some, None}
+use Rattle.std.specs.Prelude.{◌≡◌, ◌⊎◌, ℕ, Bool, true, false, not, ◌&&◌, bytes_eq, nat_lt, List, length, Option, Some, None}
 use Rattle.std.proofs.Common.{refl, sym, ap, subst, ◌∙◌, inl, inr, true≢false}
 use Rattle.std.proofs.lemmas.Slice.Eq.{bytes_eq-Decides}
 use Rattle.std.specs.FinMap.{get, insert, remove}
@@ -24,9 +24,9 @@ use Rattle.s3_machine.specs.declared.operation.CopiesOp.TheVariants as copies_op
 use Rattle.s3_machine.specs.declared.operation.Reply.{Reply}
 use Rattle.s3_machine.specs.declared.reading.Conditions.{Conditions}
 use Rattle.s3_machine.specs.Copies.{may_be_copied, has_last, copied_span, is_onto_itself}
-use Rattle.s3_machine.specs.Finish.{finish}
 use Rattle.s3_machine.specs.Holding.{Held, takes_away}
 use Rattle.s3_machine.specs.Limits.{body_limit}
+use Rattle.s3_machine.specs.Parts.{Choice}
 use Rattle.s3_machine.specs.State.{Object, Bucket, State, Upload, Part}
 use Rattle.s3_machine.specs.Uploads.{chosen, is_too_small, kept_as, rises}
 use Rattle.s3_machine.specs.Step.{
@@ -44,10 +44,9 @@ use Rattle.s3_machine.specs.Step.{
   in_upload_by,
   is_bare,
   is_other_acl,
-  may_read,
   new_bucket,
-  put_object,
   refusal_in,
+  shows_setting,
   step,
   unless,
   unless_refused,
@@ -135,10 +134,10 @@ module _ (old : State) (bucket key : List ℕ) (held : Held old bucket key) wher
       by (inl same) = let never : None ≡ Some held.b = is ∙ ap (get old) (sym same) ∙ held.there in cc
       by (inr other) = at_other (insert old name (new_bucket moment acl)) (off_insert by_name old name (new_bucket moment acl) bucket other)
 
-  module _ (settings : Settings) (label : Label) (id : ℕ) where
+  module _ (settings : Settings) (label : Label) (choice : Choice) where
     -- the state after each step
-    after_objects : (op : ObjectsOp) → takes_away (OnObjects op) bucket key ≡ false → Keeps (step settings old (OnObjects op) label id)
-    after_objects objects_op.ListBuckets other = held
+    after_objects : (op : ObjectsOp) → takes_away (OnObjects op) bucket key ≡ false → Keeps (step settings old (OnObjects op) label choice)
+    after_objects (objects_op.ListBuckets asked) other = held
     after_objects (objects_op.CreateBucket made) other = make made.bucket made.acl label.moment (get old made.bucket) refl
     after_objects (objects_op.DeleteBucket name) other = ib (get old name) _ (λ b. un (not (is_bare b)) code.BucketNotEmpty _ (at_other (remove old name) (off_remove by_name old name bucket (apart_from name other))))
     after_objects (objects_op.HeadBucket name) other = ib (get old name) _ (λ b. un _ code.AccessDenied _ held)
@@ -152,8 +151,15 @@ module _ (old : State) (bucket key : List ℕ) (held : Held old bucket key) wher
     after_objects (objects_op.DeleteObject deletion) other = ib (get old deletion.bucket) _ (λ b. ur (refusal_in deletion.only_if deletion.key b) _ (drop_at deletion.bucket deletion.key other))
     after_objects (objects_op.DeleteObjects deletion) other = ib (get old deletion.bucket) _ (λ b. at_other _ (off_adjust by_name deletion.bucket _ old bucket (apart_from deletion.bucket other)))
     after_objects (objects_op.GetObjectAcl name) other = ib (get old name.bucket) _ (λ b. io (get b.objects name.key) _ (λ o. held))
+    after_objects (objects_op.PutObjectAcl set) other =
+        ib (get old set.bucket) _ (λ b. io (get b.objects set.key) _ (λ o. un (is_other_acl (Some set.acl) b.acl) code.AccessControlListNotSupported _ held))
+    after_objects (objects_op.GetSetting read) other = ib (get old read.bucket) _ (λ b. setting read.key b)
+      where
+        setting : (key : Option (List ℕ)) (b : Bucket) → Keeps (shows_setting old key read.unset b)
+        setting None b = held
+        setting (Some key) b = io (get b.objects key) _ (λ o. held)
 
-    after_uploads : (op : UploadsOp) → Keeps (step settings old (OnUploads op) label id)
+    after_uploads : (op : UploadsOp) → Keeps (step settings old (OnUploads op) label choice)
     after_uploads (uploads_op.ListUploads list) = ib (get old list.bucket) _ (λ b. held)
     after_uploads (uploads_op.CreateUpload start) = ib (get old start.bucket) _ (λ b. un (is_other_acl start.acl b.acl) code.NotImplemented _ (untouched start.bucket _ (λ b. refl)))
     after_uploads (uploads_op.UploadPart part) = ib (get old part.bucket) _ (λ b. iu (get b.uploads part.id) part.key _ (λ u. untouched part.bucket _ (λ b. refl)))
@@ -170,15 +176,15 @@ module _ (old : State) (bucket key : List ℕ) (held : Held old bucket key) wher
         kept None b = iu (get b.uploads completion.id) completion.key _ (λ u. un (not (rises completion.list)) code.InvalidPartOrder _ (parts_by (chosen u.parts completion.list) b u))
     after_uploads (uploads_op.AbortUpload upload) = ib (get old upload.bucket) _ (λ b. iu (get b.uploads upload.id) upload.key _ (λ u. untouched upload.bucket _ (λ b. refl)))
 
-    after_copies : (op : CopiesOp) → Keeps (step settings old (OnCopies op) label id)
+    after_copies : (op : CopiesOp) → Keeps (step settings old (OnCopies op) label choice)
     after_copies (copies_op.CopyObject copy) =
         ib (get old copy.bucket) _ (λ b. un (is_other_acl copy.acl b.acl) code.NotImplemented _ (source copy.from_bucket copy.from_key copy.conditions _ b
         (λ o. un (is_onto_itself copy.bucket copy.key copy.from_bucket copy.from_key copy.replaced) code.InvalidRequest _ (ur (refusal_in copy.only_if copy.key b) _ (put_at copy.bucket copy.key _ _ (λ b. refl))))))
     after_copies (copies_op.CopyPart copy) =
         ib (get old copy.bucket) _ (λ b. iu (get b.uploads copy.id) copy.key _ (λ u. source copy.from_bucket copy.from_key copy.conditions _ b
-        (λ o. un (not (has_last copy.range (length o.bytes))) code.InvalidRange _ (un (nat_lt (body_limit settings) (copied_span copy.range (length o.bytes)).length) code.EntityTooLarge _ (untouched copy.bucket _ (λ b. refl))))))
+        (λ o. un (not (has_last copy.range (length o.bytes))) (code.InvalidRange None) _ (un (nat_lt (body_limit settings) (copied_span copy.range (length o.bytes)).length) code.EntityTooLarge _ (untouched copy.bucket _ (λ b. refl))))))
 
-    after : (op : Op) → takes_away op bucket key ≡ false → Keeps (step settings old op label id)
+    after : (op : Op) → takes_away op bucket key ≡ false → Keeps (step settings old op label choice)
     after (op_as.GetObject read) other = ib (get old read.bucket) _ (λ b. un _ code.AccessDenied _ (io (get b.objects read.key) _ (λ o. held)))
     after (OnObjects op) other = after_objects op other
     after (OnUploads op) other = after_uploads op
@@ -186,4 +192,4 @@ module _ (old : State) (bucket key : List ℕ) (held : Held old bucket key) wher
 
 pub stays_held : (settings : Settings) (old new : State) (bucket key : List ℕ) (op : Op) (label : Label) (reply : Reply) → Held old bucket key → takes_away op bucket key ≡ false
     → S3Step settings old op label reply new → Held new bucket key
-stays_held settings old new bucket key op label reply held other does = subst (λ s. Held s bucket key) (sym does.goes) (after old bucket key held settings label does.id op other)
+stays_held settings old new bucket key op label reply held other does = subst (λ s. Held s bucket key) (sym does.goes) (after old bucket key held settings label does.choice op other)

@@ -1,4 +1,5 @@
 pub mod Budget
+pub mod Counts
 pub mod Digests
 pub mod Holding
 pub mod Locks

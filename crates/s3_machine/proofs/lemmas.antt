@@ -3,3 +3,4 @@ pub mod StepLemmas
 pub mod CopyConditions
 pub mod Starts
 pub mod WriteConditions
+pub mod Buckets

@@ -10,7 +10,8 @@ use Rattle.s3_machine.specs.declared.operation.Settings.{Settings}
 use Rattle.s3_machine.specs.Ops.{PutObject, GetObject, DeleteObject}
 use Rattle.s3_machine.specs.declared.code.Code.TheVariants.{NoSuchKey, PreconditionFailed}
 use Rattle.s3_machine.specs.declared.operation.Reply.{Reply}
-use Rattle.s3_machine.specs.declared.operation.Reply.TheVariants.{Refused, Stored, Gone}
+use Rattle.s3_machine.specs.declared.operation.Reply.TheVariants.{Refused, Gone}
+use Rattle.s3_machine.specs.Replies.{Stored}
 use Rattle.s3_machine.specs.declared.reading.Conditions.{Conditions}
 use Rattle.s3_machine.specs.declared.reading.Range.{Range}
 use Rattle.s3_machine.specs.declared.only_if.OnlyIf.{OnlyIf}
@@ -20,20 +21,21 @@ use Rattle.s3_machine.specs.Conditions.{no_conditions}
 use Rattle.s3_machine.specs.State.{Bucket, State}
 use Rattle.s3_machine.specs.Step.{S3Step, new_object, whole}
 
--- what was put is what an owner gets next who asks for all of it: the bytes, with their type, metadata and moment
+-- what was put is what an owner gets next who asks for all of it, whatever headers are to be shown: the bytes, with their type,
+-- metadata and moment
 pub record GetAfterPut : Type 0 where
   pub gets : (settings : Settings) (old new after : State) (bucket key content_type body etag : List ℕ) (acl : Option Acl) (meta : List Pair) (only_if : OnlyIf)
-      (first second : Label) (reply : Reply)
-      → S3Step settings old (PutObject bucket key acl content_type meta body only_if) first (Stored etag) new
-      → second.caller ≡ Owner → S3Step settings new (GetObject bucket key None no_conditions) second reply after
-      → reply ≡ whole (new_object first.moment content_type meta body)
+      (checksum : Option Pair) (shown : List Pair) (first second : Label) (reply : Reply)
+      → S3Step settings old (PutObject bucket key acl content_type meta body only_if checksum) first (Stored etag checksum) new
+      → second.caller ≡ Owner → S3Step settings new (GetObject bucket key None no_conditions None shown) second reply after
+      → reply ≡ whole shown (new_object first.moment content_type meta body)
 
 -- and what was deleted is gone, whatever is asked for
 pub record GetAfterDelete : Type 0 where
   pub gets : (settings : Settings) (old new after : State) (bucket key : List ℕ) (range : Option Range) (conditions : Conditions) (only_if : OnlyIf)
-      (first second : Label) (reply : Reply)
+      (part : Option ℕ) (shown : List Pair) (first second : Label) (reply : Reply)
       → S3Step settings old (DeleteObject bucket key only_if) first Gone new
-      → second.caller ≡ Owner → S3Step settings new (GetObject bucket key range conditions) second reply after
+      → second.caller ≡ Owner → S3Step settings new (GetObject bucket key range conditions part shown) second reply after
       → reply ≡ Refused NoSuchKey
 
 -- ---- locks
@@ -49,10 +51,11 @@ pub record Claim : Type 0 where
   pub content_type : List ℕ
   pub meta : List Pair
   pub body : List ℕ
+  pub checksum : Option Pair
   pub label : Label
 
 abbrev pub Claims : Settings → List ℕ → List ℕ → State → Claim → Reply → State → Type 0
-Claims settings bucket key old claim reply new = S3Step settings old (PutObject bucket key None claim.content_type claim.meta claim.body Missing) claim.label reply new
+Claims settings bucket key old claim reply new = S3Step settings old (PutObject bucket key None claim.content_type claim.meta claim.body Missing claim.checksum) claim.label reply new
 
 -- the service answers these claims of one key, one after another, each so
 unfoldable pub AnswersClaims : Settings → List ℕ → List ℕ → State → List (Claim × Reply) → State → Type 0
@@ -63,13 +66,13 @@ AnswersClaims settings bucket key old (c ∷ claims) new = (middle : State) × C
 pub record OneClaimWins : Type 0 where
   pub wins : (settings : Settings) (old new : State) (bucket key : List ℕ) (first : Claim × Reply) (others : List (Claim × Reply)) → HasFreeKey old bucket key
       → AnswersClaims settings bucket key old (first ∷ others) new
-      → (first.1 ≡ Stored (body_etag first.0.body)) × All (λ (other : Claim × Reply). other.1 ≡ Refused PreconditionFailed) others
+      → (first.1 ≡ Stored (body_etag first.0.body) first.0.checksum) × All (λ (other : Claim × Reply). other.1 ≡ Refused PreconditionFailed) others
 
 -- of two puts in place of an object with one ETag the second is refused where the first was done, and put an object with another
 -- ETag; it leaves the state
 pub record SwapsOnce : Type 0 where
   pub refuses : (settings : Settings) (old middle new : State) (bucket key etag : List ℕ) (one other : Claim) (stored : List ℕ) (reply : Reply)
-      → S3Step settings old (PutObject bucket key None one.content_type one.meta one.body (Holds etag)) one.label (Stored stored) middle
+      → S3Step settings old (PutObject bucket key None one.content_type one.meta one.body (Holds etag) one.checksum) one.label (Stored stored one.checksum) middle
       → bytes_eq etag (body_etag one.body) ≡ false
-      → S3Step settings middle (PutObject bucket key None other.content_type other.meta other.body (Holds etag)) other.label reply new
+      → S3Step settings middle (PutObject bucket key None other.content_type other.meta other.body (Holds etag) other.checksum) other.label reply new
       → (reply ≡ Refused PreconditionFailed) × (new ≡ middle)

@@ -1,4 +1,5 @@
 pub mod Body
+pub mod Buckets
 pub mod Conditions
 pub mod Copies
 pub mod ETag
@@ -9,6 +10,7 @@ pub mod Laws
 pub mod Limits
 pub mod OnlyIf
 pub mod Ops
+pub mod Parts
 pub mod Proper
 pub mod Ranges
 pub mod Reading

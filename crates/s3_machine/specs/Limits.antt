@@ -1,6 +1,6 @@
 -- The limits of what an object is put with, and of what is asked for. Source: Amazon S3 User Guide, "Working with object metadata", and RFC 9110,
 -- section 5.6.2, for tokens; the numbers are this profile's.
-use Rattle.std.specs.Prelude.{ℕ, Bool, false, ◌&&◌, ◌||◌, ◌==◌, ◌+◌, nat_le, min, if◌then◌else◌, List, length, drop, slice_get, sum_by, codes, bytes_eq}
+use Rattle.std.specs.Prelude.{ℕ, Bool, false, None, ◌&&◌, ◌||◌, ◌==◌, ◌+◌, nat_le, min, if◌then◌else◌, List, length, drop, slice_get, sum_by, codes, bytes_eq}
 use Rattle.std.specs.List.{list_all, list_any}
 use Rattle.std.specs.Option.{option_map_or}
 use Rattle.gate_base.specs.Fields.{is_field, is_printable}
@@ -8,7 +8,7 @@ use Rattle.gate_base.specs.declared.page.Pair.{Pair}
 use Rattle.s3_names.specs.Bucket.{is_lower_or_digit}
 use Rattle.s3_names.specs.Key.{is_key}
 use Rattle.s3_machine.specs.declared.operation.Settings.{Settings}
-use Rattle.s3_machine.specs.declared.limits.TheConstants.{MOST_BODY_BYTES, MOST_CONTENT_TYPE_BYTES, MOST_ENTRIES, MOST_ITEMS, MOST_KEYS, MOST_META_BYTES, RANGE_LIMIT}
+use Rattle.s3_machine.specs.declared.limits.TheConstants.{MOST_BODY_BYTES, MOST_BUCKETS, MOST_CONTENT_TYPE_BYTES, MOST_ENTRIES, MOST_ITEMS, MOST_KEYS, MOST_META_BYTES, RANGE_LIMIT}
 
 -- the most bytes of the body of any request
 abbrev pub most_body_bytes : ℕ
@@ -17,6 +17,18 @@ most_body_bytes = MOST_BODY_BYTES
 -- the most bytes of a body, and of a part that is copied, in a run
 abbrev pub body_limit : Settings → ℕ
 body_limit settings = min settings.largest_body most_body_bytes
+
+-- the settings of the strict profile
+abbrev pub strict_settings : List ℕ → ℕ → ℕ → Settings
+strict_settings region least_part largest_body = record {
+  region = region;
+  least_part = least_part;
+  largest_body = largest_body;
+  extended = false;
+  any_region = false;
+  domain = None;
+  share = None;
+}
 
 -- 1 to 256 bytes of visible ASCII and spaces, without a space at either end
 unfoldable pub is_content_type : List ℕ → Bool
@@ -61,6 +73,10 @@ is_proper_meta meta = nat_le (length meta) MOST_ENTRIES && list_all is_proper_pa
 -- the most items of a listing
 abbrev pub most_items : ℕ
 most_items = MOST_ITEMS
+
+-- the most buckets that a page of them may be asked for
+abbrev pub most_buckets : ℕ
+most_buckets = MOST_BUCKETS
 
 -- the most keys of one deletion of many keys
 abbrev pub most_keys : ℕ

@@ -6,12 +6,13 @@ use Rattle.s3_names.specs.Bucket.{is_bucket}
 use Rattle.s3_names.specs.Key.{is_key}
 use Rattle.s3_machine.specs.declared.code.Code.{Code}
 use Rattle.s3_machine.specs.declared.code.Code.TheVariants.{ServiceUnavailable, InconsistentStore}
+use Rattle.s3_machine.specs.declared.buckets.BucketListing.{BucketListing}
 use Rattle.s3_machine.specs.declared.items.Asked.{Asked}
 use Rattle.s3_machine.specs.declared.operation.Listed.{Listed}
 use Rattle.s3_machine.specs.declared.operation.Described.{Described}
 use Rattle.s3_machine.specs.declared.reading.Range.{Range}
 use Rattle.s3_machine.specs.declared.reading.Range.TheVariants.{FromTo, From, Last}
-use Rattle.s3_machine.specs.Limits.{is_content_type, is_listing_text, is_proper_meta, most_body_bytes, most_items, most_keys, range_limit}
+use Rattle.s3_machine.specs.Limits.{is_content_type, is_listing_text, is_proper_meta, most_body_bytes, most_buckets, most_items, most_keys, range_limit}
 use Rattle.s3_machine.specs.Uploads.{most_parts}
 
 -- a code by which a request is refused before it is answered: none for a store that failed or is inconsistent
@@ -48,6 +49,12 @@ pub record IsProperAsked (asked : Asked) : Type 0 where
   pub start_after : is_listing_text asked.start_after ≡ true
   pub token : IfSome asked.token (λ text. is_listing_text text ≡ true)
   pub few : asked.max ≤ most_items
+
+-- what buckets are listed by
+pub record IsProperBuckets (asked : BucketListing) : Type 0 where
+  pub prefix : is_listing_text asked.prefix ≡ true
+  pub token : IfSome asked.token (λ text. is_listing_text text ≡ true)
+  pub few : IfSome asked.max (λ max. (1 ≤ max) × (max ≤ most_buckets))
 
 -- what uploads are listed by
 pub record IsProperUploads (with_prefix key id : List ℕ) (max : ℕ) : Type 0 where

@@ -1,20 +1,18 @@
 -- One step of the S3 service: what an operation is answered, and the state after it. The refusals are tried in
 -- the order given, and a refused step leaves the state. Source: Amazon S3 API Reference and this profile.
-use Rattle.std.specs.Prelude.{◌≡◌, ◌<◌, ◌≤◌, ◌^◌, ◌==◌, ℕ, nat_eq, nat_lt, bytes_eq, Bool, true, false, not, if◌then◌else◌, List, [], ◌∷◌, map, length, Option, Some, None, IfSome}
-use Rattle.std.specs.List.{list_all}
-use Rattle.std.specs.Option.{option_map, unwrap_or}
+use Rattle.std.specs.Prelude.{◌≡◌, ◌<◌, ◌^◌, ◌==◌, ℕ, nat_eq, nat_lt, bytes_eq, Bool, true, false, not, if◌then◌else◌, List, [], ◌∷◌, map, length, Option, Some, None, IfSome}
+use Rattle.std.specs.Option.{option_map, option_and_then, unwrap_or}
 use Rattle.std.specs.FinMap.{entries, get, insert, remove, empty, len}
 use Rattle.gate_base.specs.declared.caller.Caller.{Caller}
-use Rattle.gate_base.specs.declared.caller.Caller.TheVariants.{Owner, Anonymous}
+use Rattle.gate_base.specs.declared.caller.Caller.TheVariants.{Owner, Reader, Anonymous}
 use Rattle.gate_base.specs.declared.page.Pair.{Pair}
 use Rattle.gate_base.specs.Maps.{adjust, Names}
 use Rattle.s3_names.specs.declared.acl.Acl.{Acl}
 use Rattle.s3_names.specs.declared.acl.Acl.TheVariants.{Private, PublicRead}
-use Rattle.s3_names.specs.Bucket.{is_bucket}
 use Rattle.s3_names.specs.Id.{id_digits}
-use Rattle.s3_names.specs.Key.{is_key}
 use Rattle.s3_machine.specs.declared.code.Code.{Code}
 use Rattle.s3_machine.specs.declared.code.Code.TheVariants.{
+  AccessControlListNotSupported,
   AccessDenied,
   BucketAlreadyOwnedByYou,
   BucketNotEmpty,
@@ -28,8 +26,10 @@ use Rattle.s3_machine.specs.declared.code.Code.TheVariants.{
   NoSuchKey,
   NoSuchUpload,
   NotImplemented,
+  NotSet,
   PreconditionFailed,
 }
+use Rattle.s3_machine.specs.declared.buckets.BucketListing.{BucketListing}
 use Rattle.s3_machine.specs.declared.items.Asked.{Asked}
 use Rattle.s3_machine.specs.declared.items.BucketItem.{BucketItem}
 use Rattle.s3_machine.specs.declared.items.Item.{Item}
@@ -37,13 +37,12 @@ use Rattle.s3_machine.specs.declared.items.ItemHead.{ItemHead}
 use Rattle.s3_machine.specs.declared.reading.Conditions.{Conditions}
 use Rattle.s3_machine.specs.declared.reading.Judged.{Judged}
 use Rattle.s3_machine.specs.declared.reading.Judged.TheVariants as judged_as
-use Rattle.s3_machine.specs.declared.reading.Range.{Range}
-use Rattle.s3_machine.specs.declared.reading.Range.TheVariants.{FromTo, From, Last}
 use Rattle.s3_machine.specs.declared.reading.Span.{Span}
 use Rattle.s3_machine.specs.declared.operation.Label.{Label}
 use Rattle.s3_machine.specs.declared.operation.Settings.{Settings}
 use Rattle.s3_machine.specs.declared.operation.Op.{Op}
 use Rattle.s3_machine.specs.declared.operation.Op.TheVariants.{GetObject, OnObjects, OnUploads, OnCopies}
+use Rattle.s3_machine.specs.declared.operation.ObjectRead.{ObjectRead}
 use Rattle.s3_machine.specs.declared.operation.ObjectsOp.{ObjectsOp}
 use Rattle.s3_machine.specs.declared.operation.ObjectsOp.TheVariants.{
   ListBuckets,
@@ -59,6 +58,8 @@ use Rattle.s3_machine.specs.declared.operation.ObjectsOp.TheVariants.{
   DeleteObject,
   DeleteObjects,
   GetObjectAcl,
+  PutObjectAcl,
+  GetSetting,
 }
 use Rattle.s3_machine.specs.declared.operation.UploadsOp.{UploadsOp}
 use Rattle.s3_machine.specs.declared.operation.UploadsOp.TheVariants.{ListUploads, CreateUpload, UploadPart, ListParts, CompleteUpload, AbortUpload}
@@ -68,19 +69,21 @@ use Rattle.s3_machine.specs.declared.operation.Listed.{Listed}
 use Rattle.s3_machine.specs.declared.operation.ObjectHead.{ObjectHead}
 use Rattle.s3_machine.specs.declared.operation.Described.{Described}
 use Rattle.s3_machine.specs.declared.operation.Reply.{Reply}
+use Rattle.s3_machine.specs.declared.unset.Unset.{Unset}
+use Rattle.s3_machine.specs.declared.unset.Unset.TheVariants.{Named, Empty}
 use Rattle.s3_machine.specs.Replies as reply
+use Rattle.s3_machine.specs.Buckets.{bucket_page}
 use Rattle.s3_machine.specs.Copies.{copied, is_onto_itself, has_last, copied_span, may_be_copied}
 use Rattle.s3_machine.specs.ETag.{body_etag}
 use Rattle.s3_machine.specs.Items.{items}
 use Rattle.s3_machine.specs.declared.only_if.OnlyIf.{OnlyIf}
 use Rattle.s3_machine.specs.OnlyIf.{refusal}
 use Rattle.s3_machine.specs.Limits.{body_limit}
-use Rattle.s3_machine.specs.Reading.{judged, taken}
+use Rattle.s3_machine.specs.Parts.{Choice, IsPartOf, judged_by, parts_in, range_code}
+use Rattle.s3_machine.specs.Reading.{taken}
 use Rattle.s3_machine.specs.State.{Object, Part, Upload, Bucket, State}
 use Rattle.s3_machine.specs.Finish.{finished}
 use Rattle.s3_machine.specs.Uploads.{
-  most_parts,
-  IsPartNumber,
   id_value,
   new_upload,
   open_upload,
@@ -130,9 +133,10 @@ in_bucket_by (Some b) old f = f b
 abbrev pub in_bucket : State → List ℕ → (Bucket → Outcome) → Outcome
 in_bucket old name f = in_bucket_by (get old name) old f
 
--- an owner reads all, and anybody what is public
+-- an owner reads all, as one does who may only read, and anybody what is public
 abbrev pub may_read : Caller → Acl → Bool
 may_read Owner acl = true
+may_read Reader acl = true
 may_read Anonymous PublicRead = true
 may_read Anonymous Private = false
 
@@ -170,6 +174,10 @@ bucket_item entry = record { name = entry.0; created = entry.1.created }
 abbrev pub bucket_items : State → List BucketItem
 bucket_items state = map bucket_item (entries state)
 
+-- the page of these buckets that is asked for
+abbrev pub buckets_reply : BucketListing → List BucketItem × Bool → Reply
+buckets_reply asked listed = reply.Buckets asked listed.0 listed.1
+
 -- DeleteBucket in a bucket: open uploads and kept completions go with it
 abbrev pub drops : State → List ℕ → Bucket → Outcome
 drops old name b = unless (not (is_bare b)) BucketNotEmpty old (gives reply.Gone (remove old name))
@@ -194,6 +202,18 @@ sets_acl old name acl b = gives reply.Done (adjust name (with_acl acl) old)
 abbrev pub shows_object_acl : State → List ℕ → Bucket → Outcome
 shows_object_acl old key b = in_object_by (get b.objects key) old (λ o. gives (reply.AclOf b.acl) old)
 
+-- ---- settings
+
+-- what is answered of a setting that nothing sets
+abbrev pub unset_reply : Unset → Reply
+unset_reply (Named code) = reply.Refused (NotSet code)
+unset_reply (Empty page) = reply.Setting page
+
+-- GetSetting in a bucket, of it or of the object of a key
+abbrev pub shows_setting : State → Option (List ℕ) → Unset → Bucket → Outcome
+shows_setting old None unset b = gives (unset_reply unset) old
+shows_setting old (Some key) unset b = in_object_by (get b.objects key) old (λ o. gives (unset_reply unset) old)
+
 -- ---- objects
 
 -- an object as it is put
@@ -214,6 +234,11 @@ is_other_acl (Some Private) PublicRead = true
 is_other_acl (Some PublicRead) Private = true
 is_other_acl (Some PublicRead) PublicRead = false
 
+-- PutObjectAcl in a bucket: an object has the list of its bucket, so another can't be set
+abbrev pub sets_object_acl : State → List ℕ → Acl → Bucket → Outcome
+sets_object_acl old key acl b =
+    in_object_by (get b.objects key) old (λ o. unless (is_other_acl (Some acl) b.acl) AccessControlListNotSupported old (gives reply.Done old))
+
 abbrev pub etag_of_object : Object → List ℕ
 etag_of_object o = o.etag
 
@@ -221,33 +246,39 @@ etag_of_object o = o.etag
 abbrev pub refusal_in : OnlyIf → List ℕ → Bucket → Option Code
 refusal_in only_if key b = refusal only_if (option_map etag_of_object (get b.objects key))
 
--- PutObject in a bucket: the object in place of what stands under the key
-abbrev pub puts : State → List ℕ → List ℕ → Option Acl → Object → OnlyIf → Bucket → Outcome
-puts old bucket key acl o only_if b =
+-- PutObject in a bucket: the object in place of what stands under the key. The checksum that was compared is shown
+abbrev pub puts : State → List ℕ → List ℕ → Option Acl → Object → OnlyIf → Option Pair → Bucket → Outcome
+puts old bucket key acl o only_if checksum b =
     unless (is_other_acl acl b.acl) NotImplemented old
-    (unless_refused (refusal_in only_if key b) old (gives (reply.Stored o.etag) (adjust bucket (put_object key o) old)))
+    (unless_refused (refusal_in only_if key b) old (gives (reply.Stored o.etag checksum) (adjust bucket (put_object key o) old)))
 
 abbrev pub head_of : Object → ObjectHead
 head_of o = record { etag = o.etag; modified = o.modified; size = length o.bytes; content_type = o.content_type; meta = o.meta }
 
--- the reply of an object with this head, with what is said of the bytes of a span
-abbrev pub read_by : ObjectHead → (Span → List ℕ) → Judged → Reply
-read_by head bytes judged_as.PreconditionFailed = reply.Refused PreconditionFailed
-read_by head bytes judged_as.NotModified = reply.NotModified head
-read_by head bytes judged_as.InvalidRange = reply.Refused InvalidRange
-read_by head bytes (judged_as.Bytes span partial) = reply.Object head span.from span.length partial (bytes span)
+-- the reply of an object with this head, by the part that was asked for and the headers that are shown, with what is said of the
+-- bytes of a span
+abbrev pub read_by : Option ℕ → List Pair → ObjectHead → (Span → List ℕ) → Judged → Reply
+read_by part shown head bytes judged_as.PreconditionFailed = reply.Refused PreconditionFailed
+read_by part shown head bytes judged_as.NotModified = reply.NotModified head
+read_by part shown head bytes judged_as.InvalidRange = reply.Refused (range_code part head.size)
+read_by part shown head bytes (judged_as.Bytes span partial) =
+    reply.Object head span.from span.length partial (bytes span) shown (option_and_then (λ n. parts_in head.etag) part)
 
--- all of an object
-abbrev pub whole : Object → Reply
-whole o = reply.Object (head_of o) 0 (length o.bytes) false o.bytes
+-- all of an object, with these headers shown
+abbrev pub whole : List Pair → Object → Reply
+whole shown o = reply.Object (head_of o) 0 (length o.bytes) false o.bytes shown None
+
+-- what a read of an object with this head comes to, by the bytes of the part that it asks for
+abbrev pub judged_read : ObjectRead → Option Span → ObjectHead → Judged
+judged_read read chosen head = judged_by read.part chosen read.range read.conditions head
 
 -- GetObject of an object: the bytes that are asked for, where the conditions hold
-abbrev pub got : Option Range → Conditions → Object → Reply
-got range conditions o = read_by (head_of o) (λ span. taken span o.bytes) (judged range conditions (head_of o))
+abbrev pub got : ObjectRead → Option Span → Object → Reply
+got read chosen o = read_by read.part read.shown (head_of o) (λ span. taken span o.bytes) (judged_read read chosen (head_of o))
 
 -- HeadObject of an object: the same without the bytes
-abbrev pub headed : Option Range → Conditions → Object → Reply
-headed range conditions o = read_by (head_of o) (λ span. []) (judged range conditions (head_of o))
+abbrev pub headed : ObjectRead → Option Span → Object → Reply
+headed read chosen o = read_by read.part read.shown (head_of o) (λ span. []) (judged_read read chosen (head_of o))
 
 -- GetObject and HeadObject: this answer, and the state stays
 abbrev pub reads : State → (Object → Reply) → Object → Outcome
@@ -317,9 +348,9 @@ lists_uploads old bucket prefix key_marker id_marker max url b = gives (uploads_
 abbrev pub starts : State → List ℕ → List ℕ → Option Acl → Upload → ℕ → Bucket → Outcome
 starts old bucket key acl u id b = unless (is_other_acl acl b.acl) NotImplemented old (gives (reply.Started bucket key id) (adjust bucket (open_upload (id_digits id) u) old))
 
--- UploadPart in an upload: the part in place of what stands under its number
-abbrev pub puts_part : State → List ℕ → List ℕ → ℕ → Part → Upload → Outcome
-puts_part old bucket id number p u = gives (reply.Stored p.etag) (adjust bucket (on_upload id (with_part number p)) old)
+-- UploadPart in an upload: the part in place of what stands under its number. The checksum that was compared is shown
+abbrev pub puts_part : State → List ℕ → List ℕ → ℕ → Part → Option Pair → Upload → Outcome
+puts_part old bucket id number p checksum u = gives (reply.Stored p.etag checksum) (adjust bucket (on_upload id (with_part number p)) old)
 
 -- ListParts in an upload
 abbrev pub parts_reply : List ℕ → List ℕ → List ℕ → ℕ → ℕ → Upload → Reply
@@ -387,7 +418,7 @@ puts_copy old bucket id number p = gives (reply.Copied true p.etag p.modified) (
 -- CopyPart of an object, of all its bytes or of a range that it has
 abbrev pub copies_bytes : Settings → State → List ℕ → List ℕ → ℕ → Option (ℕ × ℕ) → ℕ → Object → Outcome
 copies_bytes settings old bucket id number range moment o =
-    unless (not (has_last range (length o.bytes))) InvalidRange old
+    unless (not (has_last range (length o.bytes))) (InvalidRange None) old
     (unless (nat_lt (body_limit settings) (copied_span range (length o.bytes)).length) EntityTooLarge old
     (puts_copy old bucket id number (new_part moment (taken (copied_span range (length o.bytes)) o.bytes))))
 
@@ -398,25 +429,27 @@ copies_part settings old bucket key id number from_bucket from_key range conditi
 
 -- ---- the step
 
--- the step of an operation on buckets and objects
-abbrev pub objects_step : Settings → State → ObjectsOp → Label → Outcome
-objects_step settings old ListBuckets label = gives (reply.Buckets (bucket_items old)) old
-objects_step settings old (CreateBucket made) label = creates (get old made.bucket) old made.bucket made.acl label.moment
-objects_step settings old (DeleteBucket bucket) label = in_bucket old bucket (drops old bucket)
-objects_step settings old (HeadBucket bucket) label = in_bucket old bucket (shows old label.caller)
-objects_step settings old (GetLocation bucket) label = in_bucket old bucket (locates settings old)
-objects_step settings old (GetBucketAcl bucket) label = in_bucket old bucket (shows_acl old)
-objects_step settings old (PutBucketAcl set) label = in_bucket old set.bucket (sets_acl old set.bucket set.acl)
-objects_step settings old (ListObjects list) label = in_bucket old list.bucket (lists old label.caller list.bucket list.asked)
-objects_step settings old (PutObject put) label =
-    in_bucket old put.bucket (puts old put.bucket put.key put.acl (new_object label.moment put.content.content_type put.content.meta put.content.body) put.only_if)
-objects_step settings old (HeadObject read) label =
-    in_bucket old read.bucket (in_readable old label.caller read.key (reads old (headed read.range read.conditions)))
-objects_step settings old (DeleteObject deletion) label =
+-- the step of an operation on buckets and objects, with the bytes that a part has
+abbrev pub objects_step : Settings → State → ObjectsOp → Label → Option Span → Outcome
+objects_step settings old (ListBuckets asked) label part = gives (buckets_reply asked (bucket_page asked (bucket_items old))) old
+objects_step settings old (CreateBucket made) label part = creates (get old made.bucket) old made.bucket made.acl label.moment
+objects_step settings old (DeleteBucket bucket) label part = in_bucket old bucket (drops old bucket)
+objects_step settings old (HeadBucket bucket) label part = in_bucket old bucket (shows old label.caller)
+objects_step settings old (GetLocation bucket) label part = in_bucket old bucket (locates settings old)
+objects_step settings old (GetBucketAcl bucket) label part = in_bucket old bucket (shows_acl old)
+objects_step settings old (PutBucketAcl set) label part = in_bucket old set.bucket (sets_acl old set.bucket set.acl)
+objects_step settings old (ListObjects list) label part = in_bucket old list.bucket (lists old label.caller list.bucket list.asked)
+objects_step settings old (PutObject put) label part =
+    in_bucket old put.bucket (puts old put.bucket put.key put.acl (new_object label.moment put.content.content_type put.content.meta put.content.body) put.only_if put.checksum)
+objects_step settings old (HeadObject read) label part =
+    in_bucket old read.bucket (in_readable old label.caller read.key (reads old (headed read part)))
+objects_step settings old (DeleteObject deletion) label part =
     in_bucket old deletion.bucket (deletes old deletion.bucket deletion.key deletion.only_if)
-objects_step settings old (DeleteObjects deletion) label =
+objects_step settings old (DeleteObjects deletion) label part =
     in_bucket old deletion.bucket (deletes_all old deletion.bucket deletion.keys deletion.quiet)
-objects_step settings old (GetObjectAcl name) label = in_bucket old name.bucket (shows_object_acl old name.key)
+objects_step settings old (GetObjectAcl name) label part = in_bucket old name.bucket (shows_object_acl old name.key)
+objects_step settings old (PutObjectAcl set) label part = in_bucket old set.bucket (sets_object_acl old set.key set.acl)
+objects_step settings old (GetSetting read) label part = in_bucket old read.bucket (shows_setting old read.key read.unset)
 
 -- the step of an operation on uploads in parts, with the id that a new upload gets
 abbrev pub uploads_step : Settings → State → UploadsOp → Label → ℕ → Outcome
@@ -426,7 +459,7 @@ uploads_step settings old (ListUploads list) label id =
 uploads_step settings old (CreateUpload start) label id =
     in_bucket old start.bucket (starts old start.bucket start.key start.acl (new_upload start.key start.described.content_type start.described.meta label.moment) id)
 uploads_step settings old (UploadPart part) label id =
-    in_bucket old part.bucket (in_upload old part.key part.id (puts_part old part.bucket part.id part.number (new_part label.moment part.body)))
+    in_bucket old part.bucket (in_upload old part.key part.id (puts_part old part.bucket part.id part.number (new_part label.moment part.body) part.checksum))
 uploads_step settings old (ListParts list) label id =
     in_bucket old list.bucket (in_upload old list.key list.id (lists_parts old list.bucket list.key list.id list.asked.marker list.asked.max))
 uploads_step settings old (CompleteUpload done) label id =
@@ -443,13 +476,13 @@ copies_step settings old (CopyPart copy) label =
     in_bucket old copy.bucket
     (copies_part settings old copy.bucket copy.key copy.id copy.number copy.from_bucket copy.from_key copy.range copy.conditions label.moment)
 
--- the step of each operation, with the id that a new upload gets
-abbrev pub step : Settings → State → Op → Label → ℕ → Outcome
-step settings old (GetObject read) label id =
-    in_bucket old read.bucket (in_readable old label.caller read.key (reads old (got read.range read.conditions)))
-step settings old (OnObjects op) label id = objects_step settings old op label
-step settings old (OnUploads op) label id = uploads_step settings old op label id
-step settings old (OnCopies op) label id = copies_step settings old op label
+-- the step of each operation, with what is chosen in it
+abbrev pub step : Settings → State → Op → Label → Choice → Outcome
+step settings old (GetObject read) label choice =
+    in_bucket old read.bucket (in_readable old label.caller read.key (reads old (got read choice.part)))
+step settings old (OnObjects op) label choice = objects_step settings old op label choice.part
+step settings old (OnUploads op) label choice = uploads_step settings old op label choice.id
+step settings old (OnCopies op) label choice = copies_step settings old op label
 
 -- an id of 128 bits that is neither open nor kept in the bucket
 pub record IsNewId (b : Bucket) (id : ℕ) : Type 0 where
@@ -462,15 +495,23 @@ abbrev pub IsFreeFor : State → UploadsOp → ℕ → Type 0
 IsFreeFor old (CreateUpload start) id = (b : Bucket) → get old start.bucket ≡ Some b → is_other_acl start.acl b.acl ≡ false → IsNewId b id
 IsFreeFor old _ id = Unit {0}
 
-abbrev pub IsFree : State → Op → ℕ → Type 0
-IsFree old (GetObject read) id = Unit {0}
-IsFree old (OnObjects op) id = Unit {0}
-IsFree old (OnUploads op) id = IsFreeFor old op id
-IsFree old (OnCopies op) id = Unit {0}
+-- the bytes that the part may have which a read asks for, where it finds an object
+abbrev pub IsFreeRead : State → ObjectRead → Option Span → Type 0
+IsFreeRead old read span = IfSome read.part (λ n. (b : Bucket) (o : Object) → get old read.bucket ≡ Some b → get b.objects read.key ≡ Some o → IsPartOf o n span)
+
+abbrev pub IsFreeOf : State → ObjectsOp → Option Span → Type 0
+IsFreeOf old (HeadObject read) span = IsFreeRead old read span
+IsFreeOf old _ span = Unit {0}
+
+abbrev pub IsFree : State → Op → Choice → Type 0
+IsFree old (GetObject read) choice = IsFreeRead old read choice.part
+IsFree old (OnObjects op) choice = IsFreeOf old op choice.part
+IsFree old (OnUploads op) choice = IsFreeFor old op choice.id
+IsFree old (OnCopies op) choice = Unit {0}
 
 -- the service goes by this operation from the old state to the new one, and answers this
 pub record S3Step (settings : Settings) (old : State) (op : Op) (label : Label) (reply : Reply) (new : State) : Type 0 where
-  pub id : ℕ
-  pub free : IsFree old op id
-  pub replies : reply ≡ (step settings old op label id).reply
-  pub goes : new ≡ (step settings old op label id).state
+  pub choice : Choice
+  pub free : IsFree old op choice
+  pub replies : reply ≡ (step settings old op label choice).reply
+  pub goes : new ≡ (step settings old op label choice).state

@@ -21,7 +21,7 @@ pub fn may_read(caller: Caller, acl: Acl) -> bool
     ensures { result ≡ may_read caller acl }
 {
     match (caller, acl) {
-        (Caller::Owner, _) | (Caller::Anonymous, Acl::PublicRead) => true,
+        (Caller::Owner | Caller::Reader, _) | (Caller::Anonymous, Acl::PublicRead) => true,
         (Caller::Anonymous, Acl::Private) => false,
     }
 }

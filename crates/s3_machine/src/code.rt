@@ -1,15 +1,35 @@
 use crate::Limits;
 use gate_base::{Copying, Memory};
 
-/// The error codes (Amazon S3 API Reference, "Error responses"). `InconsistentStore` is this profile's own.
+/// The codes that say that a setting isn't set (Amazon S3 API Reference, "Error responses").
+#[derive(Clone, Copy, Debug, PartialEq, Eq)]
+pub enum UnsetCode {
+    NoSuchBucketPolicy,
+    NoSuchCORSConfiguration,
+    NoSuchLifecycleConfiguration,
+    ServerSideEncryptionConfigurationNotFoundError,
+    NoSuchTagSet,
+    NoSuchWebsiteConfiguration,
+    ReplicationConfigurationNotFoundError,
+    NoSuchPublicAccessBlockConfiguration,
+    ObjectLockConfigurationNotFoundError,
+    OwnershipControlsNotFoundError,
+    NoSuchObjectLockConfiguration,
+}
+
+/// The error codes (Amazon S3 API Reference, "Error responses"). `InconsistentStore` is this profile's own. `InvalidRange` has the
+/// size in bytes of an object that is read, and none of one that is copied. Three are shown by the name of another, with a sentence
+/// of their own: `ChecksumDiffers` as BadDigest, `OnlyVersionFour` as InvalidRequest and `RequestExpired` as AccessDenied.
 #[derive(Clone, Copy, Debug, PartialEq, Eq)]
 pub enum Code {
+    AccessControlListNotSupported,
     AccessDenied,
     AuthorizationHeaderMalformed,
     AuthorizationQueryParametersError,
     BadDigest,
     BucketAlreadyOwnedByYou,
     BucketNotEmpty,
+    ChecksumDiffers,
     EntityTooLarge,
     EntityTooSmall,
     IncompleteBody,
@@ -17,12 +37,15 @@ pub enum Code {
     InvalidAccessKeyId,
     InvalidArgument,
     InvalidBucketName,
+    InvalidChunkSizeError,
     InvalidDigest,
     InvalidPart,
+    InvalidPartNumber,
     InvalidPartOrder,
-    InvalidRange,
+    InvalidRange(Option<u64>),
     InvalidRequest,
     InvalidStorageClass,
+    InvalidToken,
     InvalidURI,
     KeyTooLongError,
     MalformedXML,
@@ -33,8 +56,12 @@ pub enum Code {
     NoSuchKey,
     NoSuchUpload,
     NotImplemented,
+    NotSet(UnsetCode),
+    OnlyVersionFour,
     PreconditionFailed,
+    RequestExpired,
     RequestTimeTooSkewed,
+    RequestTimeout,
     ServiceUnavailable,
     SignatureDoesNotMatch,
     XAmzContentSHA256Mismatch,

@@ -23,7 +23,7 @@ impl Copying for BucketItem {
 
 /// What ListObjects asks for, in version 1 or 2 of it. The marker is version 1's. The token, as the text that it stands
 /// for, and what is to start after are version 2's. `url` asks for escaped texts, and `owner` for the owner of each
-/// object.
+/// object. `versions` asks for the page of the versions, by version 1, whose marker is then the key-marker.
 #[derive(Debug, Drop)]
 pub struct Asked {
     pub version: u8,
@@ -35,6 +35,7 @@ pub struct Asked {
     pub max: u32,
     pub url: bool,
     pub owner: bool,
+    pub versions: bool,
 }
 
 impl Limits for Asked {
@@ -55,6 +56,7 @@ impl Copying for Asked {
             max: self.max,
             url: self.url,
             owner: self.owner,
+            versions: self.versions,
         })
     }
 }

@@ -4,6 +4,7 @@
 
 mod access;
 mod body;
+mod buckets;
 mod code;
 mod completion;
 mod copy_sources;
@@ -14,12 +15,15 @@ mod limits;
 mod numbers;
 mod only_if;
 mod operation;
+mod parts;
 mod proper;
 mod reading;
+mod unset;
 
 pub use access::{is_other_acl, may_read};
 pub use body::Body;
-pub use code::Code;
+pub use buckets::{BucketListing, bucket_page};
+pub use code::{Code, UnsetCode};
 pub use completion::{rises, same_list, upload_etag};
 pub use copy_sources::{copied_span, has_last, is_onto_itself, may_be_copied};
 pub use etag::body_etag;
@@ -31,17 +35,21 @@ pub use laws::{
     law_get_after_delete, law_get_after_put, law_one_claim_wins, law_stays_held, law_swaps_once,
 };
 pub use limits::{
-    GREATEST_PART_NUMBER, MOST_BODY_BYTES, MOST_ITEMS, MOST_KEYS, MOST_PARTS, RANGE_LIMIT,
-    is_content_type, is_kept_header, is_listing_text, is_meta_name, is_meta_value, is_proper_meta,
+    GREATEST_PART_NUMBER, MOST_BODY_BYTES, MOST_BUCKETS, MOST_ITEMS, MOST_KEYS, MOST_PARTS,
+    RANGE_LIMIT, is_content_type, is_kept_header, is_listing_text, is_meta_name, is_meta_value,
+    is_proper_meta,
 };
 pub use numbers::{CopyRange, PartNumber};
 pub use only_if::OnlyIf;
 pub use operation::{
-    BucketAcl, CompletedObject, Content, CopiedBytes, CopiesOp, DeletedKeys, Described, Label,
-    Listed, ObjectBytes, ObjectCopy, ObjectDeletion, ObjectHead, ObjectListing, ObjectName,
-    ObjectPage, ObjectPut, ObjectRead, ObjectsDeletion, ObjectsOp, ObjectsReply, Op, PartCopy,
-    PartListing, PartPage, PartPut, Reply, Settings, StartedUpload, UploadCompletion,
-    UploadListing, UploadName, UploadPage, UploadStart, UploadsOp, UploadsReply,
+    BucketAcl, BucketPage, CompletedObject, Content, CopiedBytes, CopiesOp, DeletedKeys, Described,
+    Label, Listed, ObjectAcl, ObjectBytes, ObjectCopy, ObjectDeletion, ObjectHead, ObjectListing,
+    ObjectName, ObjectPage, ObjectPut, ObjectRead, ObjectsDeletion, ObjectsOp, ObjectsReply, Op,
+    PartCopy, PartListing, PartPage, PartPut, Reply, SettingRead, Settings, StartedUpload,
+    StoredBytes, UploadCompletion, UploadListing, UploadName, UploadPage, UploadStart, UploadsOp,
+    UploadsReply,
 };
+pub use parts::{is_of_parts, judge_part, parts_in, range_code};
 pub use proper::{Limits, Proper};
 pub use reading::{Conditions, ETags, Judged, Range, Span, judge};
+pub use unset::{Unset, UnsetPage};

@@ -22,6 +22,9 @@ pub(crate) const MOST_META_BYTES: usize = 2048;
 /// The most items of one reply that lists.
 pub const MOST_ITEMS: u32 = 1000;
 
+/// The most buckets that a page of ListBuckets may be asked for; the least is 1 (Amazon S3 API Reference, "ListBuckets").
+pub const MOST_BUCKETS: u32 = 10_000;
+
 /// The most parts that a completion lists (Amazon S3 User Guide, "Amazon S3 multipart upload limits").
 pub const MOST_PARTS: usize = 10_000;
 

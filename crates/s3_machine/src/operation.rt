@@ -1,24 +1,30 @@
 ghost use Rattle.std.specs.Prelude.{◌≡◌, ◌<◌};
 ghost use Rattle.gate_base.specs.Told.{moment_limit};
-ghost use Rattle.s3_machine.specs.Limits.{body_limit};
+ghost use Rattle.s3_machine.specs.Limits.{body_limit, strict_settings};
 
 use crate::items::{Asked, BucketItem, Item, PartItem, PartsAsked, UploadItem, UploadsAsked};
 use crate::limits::MOST_BODY_BYTES;
 use crate::only_if::OnlyIf;
 use crate::reading::{Conditions, Range};
-use crate::{Body, Code, CopyRange, Limits, PartNumber, Proper};
-use gate_base::{Bytes, Caller, Copying, List, Memory};
-use s3_names::{Acl, BucketName, Key, Meta};
+use crate::unset::{Unset, UnsetPage};
+use crate::{Body, BucketListing, Code, CopyRange, Limits, PartNumber, Proper, copy_option};
+use gate_base::{Bytes, Caller, Copying, List, Memory, Pair};
+use s3_names::{Acl, BucketName, Key, Meta, ShareTable};
 
 /// What holds for a whole run: the region's name, the least size in bytes of a part that isn't the last, the greatest of a body and
 /// of a part that is copied, and whether requests may ask for more than the strict profile has. A greatest size above
-/// `MOST_BODY_BYTES` counts as that.
+/// `MOST_BODY_BYTES` counts as that. Where `any_region` is set, a credential's own region counts, and `region` is then us-east-1.
+/// `domain` is that under whose names buckets stand in Host; `share` is what this writer has of the buckets, and without it that is
+/// all of them.
 #[derive(Debug, Drop)]
 pub struct Settings {
     pub region: Bytes,
     pub least_part: u64,
     pub largest_body: u64,
     pub extended: bool,
+    pub any_region: bool,
+    pub domain: Option<Bytes>,
+    pub share: Option<ShareTable>,
 }
 
 impl Copying for Settings {
@@ -28,11 +34,29 @@ impl Copying for Settings {
             least_part: self.least_part,
             largest_body: self.largest_body,
             extended: self.extended,
+            any_region: self.any_region,
+            domain: copy_option(&self.domain)?,
+            share: copy_option(&self.share)?,
         })
     }
 }
 
 impl Settings {
+    /// The settings of the strict profile, of one writer that has all buckets. It takes no memory.
+    pub fn strict(region: Bytes, least_part: u64, largest_body: u64) -> Settings
+        ensures { result ≡ strict_settings region least_part largest_body }
+    {
+        Settings {
+            region,
+            least_part,
+            largest_body,
+            extended: false,
+            any_region: false,
+            domain: None,
+            share: None,
+        }
+    }
+
     /// The most bytes of a body, and of a part that is copied.
     pub fn body_limit(&self) -> u64
         ensures { result ≡ body_limit self.now }
@@ -132,7 +156,8 @@ impl Limits for Content {
 }
 
 /// An object that is put. An access control list that isn't given is the bucket's. `only_if` is what is asked of what stands under
-/// the key, here and in each other write, last of all.
+/// the key, here and in each other write, last of all. `checksum` is the header of a checksum that was compared with the body, which
+/// the reply shows.
 #[derive(Debug, Drop)]
 pub struct ObjectPut {
     pub bucket: BucketName,
@@ -140,15 +165,19 @@ pub struct ObjectPut {
     pub acl: Option<Acl>,
     pub content: Proper<Content>,
     pub only_if: OnlyIf,
+    pub checksum: Option<Pair>,
 }
 
-/// An object that is read, as GetObject and HeadObject have it.
+/// An object that is read, as GetObject and HeadObject have it. `part` asks for the bytes of the part of that number, and `shown` has
+/// the headers, by their names in lower case, that the reply shows in place of the object's own.
 #[derive(Debug, Drop)]
 pub struct ObjectRead {
     pub bucket: BucketName,
     pub key: Key,
     pub range: Option<Range>,
     pub conditions: Conditions,
+    pub part: Option<PartNumber>,
+    pub shown: List<Pair>,
 }
 
 /// The name of an object, as GetObjectAcl has it.
@@ -180,10 +209,27 @@ impl Limits for List<Key> {
     ghost Fits = { λ keys. IsProperKeys keys };
 }
 
+/// A setting that is read: of a bucket or, where a key is given, of its object. Nothing sets any here, so `unset` is the answer where
+/// the bucket, or the object, is there.
+#[derive(Debug, Drop)]
+pub struct SettingRead {
+    pub bucket: BucketName,
+    pub key: Option<Key>,
+    pub unset: Unset,
+}
+
+/// An access control list that an object is given.
+#[derive(Debug, Drop)]
+pub struct ObjectAcl {
+    pub bucket: BucketName,
+    pub key: Key,
+    pub acl: Acl,
+}
+
 /// The operations on buckets and objects, but for GetObject.
 #[derive(Debug, Drop)]
 pub enum ObjectsOp {
-    ListBuckets,
+    ListBuckets(Proper<BucketListing>),
     CreateBucket(BucketAcl),
     DeleteBucket(BucketName),
     HeadBucket(BucketName),
@@ -196,6 +242,8 @@ pub enum ObjectsOp {
     DeleteObject(ObjectDeletion),
     DeleteObjects(ObjectsDeletion),
     GetObjectAcl(ObjectName),
+    PutObjectAcl(ObjectAcl),
+    GetSetting(SettingRead),
 }
 
 /// A bucket, and what ListUploads asks of it.
@@ -214,7 +262,8 @@ pub struct UploadStart {
     pub described: Proper<Described>,
 }
 
-/// A part that is put. The id of an upload is a text as it was given: one that is no open upload's is NoSuchUpload.
+/// A part that is put. The id of an upload is a text as it was given: one that is no open upload's is NoSuchUpload. `checksum` is as
+/// that of an object that is put.
 #[derive(Debug, Drop)]
 pub struct PartPut {
     pub bucket: BucketName,
@@ -222,6 +271,7 @@ pub struct PartPut {
     pub id: Bytes,
     pub number: PartNumber,
     pub body: Proper<Body>,
+    pub checksum: Option<Pair>,
 }
 
 /// An upload, and which of its parts ListParts lists.
@@ -328,7 +378,8 @@ impl Copying for ObjectHead {
 }
 
 /// The bytes of an object, as GetObject and HeadObject are answered: it has `length` bytes from the byte `from` on, all of them in
-/// `body` or, in the reply to a HEAD, none; it is `partial` where a range was asked for.
+/// `body` or, in the reply to a HEAD, none; it is `partial` where a range was asked for. `shown` has the headers that are shown in place
+/// of the object's own, and `parts` is how many parts it has, where a part was asked for and its ETag tells.
 #[derive(Debug, Drop)]
 pub struct ObjectBytes {
     pub head: ObjectHead,
@@ -336,6 +387,16 @@ pub struct ObjectBytes {
     pub length: u64,
     pub partial: bool,
     pub body: Bytes,
+    pub shown: List<Pair>,
+    pub parts: Option<u32>,
+}
+
+/// A page of the buckets, `truncated` where buckets are left over.
+#[derive(Debug, Drop)]
+pub struct BucketPage {
+    pub asked: BucketListing,
+    pub items: List<BucketItem>,
+    pub truncated: bool,
 }
 
 /// A page of the objects of a bucket, `truncated` where items are left over.
@@ -354,16 +415,17 @@ pub struct DeletedKeys {
     pub quiet: bool,
 }
 
-/// What operations on buckets and objects are answered: the buckets, the name of one that was made, the region, an access control
-/// list, a page of objects, or keys that were deleted.
+/// What operations on buckets and objects are answered: a page of buckets, the name of one that was made, the region, an access
+/// control list, a page of objects, keys that were deleted, or the document of a setting that nothing sets.
 #[derive(Debug, Drop)]
 pub enum ObjectsReply {
-    Buckets(List<BucketItem>),
+    Buckets(BucketPage),
     Made(Bytes),
     Location(Bytes),
     AclOf(Acl),
     Objects(ObjectPage),
     Deleted(DeletedKeys),
+    Setting(UnsetPage),
 }
 
 /// A page of the open uploads of a bucket, `truncated` where items are left over.
@@ -419,8 +481,14 @@ pub struct CopiedBytes {
     pub modified: u64,
 }
 
-/// What an operation is answered. `Memory` says that memory ran out; the machine itself never gives it. What was `Stored`, an object
-/// or a part, has this ETag without quotes.
+/// An object or a part that was stored, with its ETag without quotes and the header of the checksum that was compared with its body.
+#[derive(Debug, Drop)]
+pub struct StoredBytes {
+    pub etag: Bytes,
+    pub checksum: Option<Pair>,
+}
+
+/// What an operation is answered. `Memory` says that memory ran out; the machine itself never gives it.
 #[derive(Debug, Drop)]
 pub enum Reply {
     Refused(Code),
@@ -429,7 +497,7 @@ pub enum Reply {
     Gone,
     NotModified(ObjectHead),
     Object(ObjectBytes),
-    Stored(Bytes),
+    Stored(StoredBytes),
     OfObjects(ObjectsReply),
     OfUploads(UploadsReply),
     Copied(CopiedBytes),

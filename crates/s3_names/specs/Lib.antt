@@ -6,5 +6,6 @@ pub mod Key
 pub mod Laws
 pub mod Meta
 pub mod Query
+pub mod Share
 pub mod Target
 pub mod Text

@@ -1,5 +1,5 @@
 //! The names of Amazon S3 as this profile takes them: buckets and their canned access control lists, object keys,
-//! percent escapes, user metadata, queries, targets and the ids of uploads.
+//! percent escapes, user metadata, queries, targets, the ids of uploads, and whose the buckets of an account are.
 #![tactic(auto)]
 
 mod acl;
@@ -11,6 +11,7 @@ mod key;
 mod laws;
 mod meta;
 mod query;
+mod share;
 mod target;
 mod text;
 
@@ -23,4 +24,5 @@ pub use key::{Key, MOST_KEY_BYTES, is_key};
 pub use laws::{law_id_reads_back, law_with_pair};
 pub use meta::Meta;
 pub use query::Query;
+pub use share::{ShareRow, ShareTable, has_bucket, owner_of};
 pub use target::Target;

@@ -70,7 +70,7 @@ module _ (settings : Settings) (old : State) (bucket key id : List ℕ) (label :
       let s = step_completed settings old bucket key id label has list only_if a.parts kept a.rise a.are a.large met in
       let same : key ≡ has.u.key = sym ((bytes_eq-Decides has.u.key key).0 has.of_key) in
       record {
-        id = s.id;
+        choice = s.choice;
         free = s.free;
         replies = replied ∙ (λ i. Completed bucket (same i) (a.etag i)) ∙ s.replies;
         goes = gone ∙ (λ i. adjust bucket (closed (same i) id (a.object i) (a.kept i)) old) ∙ s.goes;
@@ -94,12 +94,12 @@ module _ (settings : Settings) (old : State) (bucket key id : List ℕ) (label :
 
 -- an upload is created under a new id
 pub starts_flat : (settings : Settings) (old : State) (bucket key content_type : List ℕ) (acl : Option Acl) (meta : List Pair) (label : Label) (b : Bucket) (id : ℕ)
-    → get old bucket ≡ Some b → is_other_acl acl b.acl ≡ false → IsNewId b id → (new : State)
+    → get old bucket ≡ Some b → is_other_acl acl b.acl ≡ false → IsNewId b id → (reply : Reply) (new : State) → reply ≡ Started bucket key id
     → new ≡ adjust bucket (open_upload (id_digits id) (new_upload key content_type meta label.moment)) old
-    → S3Step settings old (CreateUpload bucket key acl content_type meta) label (Started bucket key id) new
-starts_flat settings old bucket key content_type acl meta label b id found same unused new gone =
+    → S3Step settings old (CreateUpload bucket key acl content_type meta) label reply new
+starts_flat settings old bucket key content_type acl meta label b id found same unused reply new replied gone =
     let s = step_started settings old bucket label b found key acl content_type meta id same unused in
-    record { id = s.id; free = s.free; replies = s.replies; goes = gone ∙ s.goes }
+    record { choice = s.choice; free = s.free; replies = replied ∙ s.replies; goes = gone ∙ s.goes }
 
 -- what was put where nothing stood is taken away again
 pub dropped_again : {X : Type 0} (m : Names X) (k : List ℕ) (x : X) → is_some (get m k) ≡ false → remove (insert m k x) k ≡ m

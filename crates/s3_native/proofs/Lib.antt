@@ -4,4 +4,6 @@ pub mod Listings
 pub mod NewIds
 pub mod Numbers
 pub mod Parts
+pub mod ReadSteps
 pub mod Rolls
+pub mod Steps

@@ -9,7 +9,6 @@ use Rattle.s3_machine.specs.declared.operation.Label.{Label}
 use Rattle.s3_machine.specs.declared.operation.Op.{Op}
 use Rattle.s3_machine.specs.declared.operation.Op.TheVariants.{OnUploads}
 use Rattle.s3_machine.specs.declared.operation.UploadsOp.TheVariants as uploads_op
-use Rattle.s3_machine.specs.Ops.{CreateUpload}
 use Rattle.s3_machine.specs.declared.operation.Reply.{Reply}
 
 -- the first id from the word of chance on that is neither open nor kept in the bucket; 2^128 are told apart

@@ -1,4 +1,6 @@
 //! The copies of objects in the machine's running form.
+#![tactic(auto, using(crate::proofs::Steps::plain))]
+
 ghost use Rattle.std.specs.Prelude.{◌≡◌, length, nat_lt, true, IfOk, IfSome, OnErr};
 ghost use Rattle.s3_machine.specs.declared.operation.Op.TheVariants.{OnCopies};
 ghost use Rattle.s3_machine.specs.declared.operation.CopiesOp.TheVariants.{CopyObject, CopyPart};
@@ -7,6 +9,7 @@ ghost use Rattle.s3_machine.specs.Limits.{body_limit};
 ghost use Rattle.s3_machine.specs.Proper.{IsProperCopyRange};
 ghost use Rattle.s3_machine.specs.Reading.{taken};
 ghost use Rattle.s3_machine.specs.Step.{S3Step, head_of};
+ghost use Rattle.s3_native.specs.Made.{StepsTo, copied_to, part_copied_to};
 
 use crate::native::{Native, NativeObject, put_object};
 use gate_base::{Bytes, Copying, Memory};
@@ -128,34 +131,10 @@ impl Native {
             (OnCopies (CopyObject copy.now)) label.now reply self.new.state) }
         ensures err { OnErr result (self.new.state ≡ self.old.state) }
     {
-        let Some(found) = self.buckets.get(copy.bucket.bytes()) else {
-            return Ok(Reply::Refused(Code::NoSuchBucket));
+        let copied = match self.copied_object(copy, label)? {
+            Ok(copied) => copied,
+            Err(code) => return Ok(Reply::Refused(code)),
         };
-        if found.has_another_acl(copy.acl) {
-            return Ok(Reply::Refused(Code::NotImplemented));
-        }
-        let Some(source) = self.buckets.get(copy.from_bucket.bytes()) else {
-            return Ok(Reply::Refused(Code::NoSuchBucket));
-        };
-        let Some(object) = source.object(copy.from_key.bytes()) else {
-            return Ok(Reply::Refused(Code::NoSuchKey));
-        };
-        if !object.may_be_copied(&copy.conditions)? {
-            return Ok(Reply::Refused(Code::PreconditionFailed));
-        }
-        if is_onto_itself(
-            &copy.bucket,
-            &copy.key,
-            &copy.from_bucket,
-            &copy.from_key,
-            &copy.replaced,
-        ) {
-            return Ok(Reply::Refused(Code::InvalidRequest));
-        }
-        if let Some(code) = found.refuses(copy.key.bytes(), &copy.only_if) {
-            return Ok(Reply::Refused(code));
-        }
-        let copied = object.copied(&copy.replaced, label.moment)?;
         let etag = copied.etag.copy()?;
         put_object(
             &mut self.buckets,
@@ -170,6 +149,46 @@ impl Native {
         }))
     }
 
+    /// The copy that is to be put, or the code by which none is. It changes nothing.
+    fn copied_object(
+        &self,
+        copy: &ObjectCopy,
+        label: &Label,
+    ) -> Result<Result<NativeObject, Code>, Memory>
+        ensures { IfOk result (λ made. StepsTo self.now.settings self.now.state
+            (OnCopies (CopyObject copy.now)) label.now
+            (copied_to self.now.state copy.now label.now.moment made)) }
+    {
+        let Some(found) = self.buckets.get(copy.bucket.bytes()) else {
+            return Ok(Err(Code::NoSuchBucket));
+        };
+        if found.has_another_acl(copy.acl) {
+            return Ok(Err(Code::NotImplemented));
+        }
+        let Some(source) = self.buckets.get(copy.from_bucket.bytes()) else {
+            return Ok(Err(Code::NoSuchBucket));
+        };
+        let Some(object) = source.object(copy.from_key.bytes()) else {
+            return Ok(Err(Code::NoSuchKey));
+        };
+        if !object.may_be_copied(&copy.conditions)? {
+            return Ok(Err(Code::PreconditionFailed));
+        }
+        if is_onto_itself(
+            &copy.bucket,
+            &copy.key,
+            &copy.from_bucket,
+            &copy.from_key,
+            &copy.replaced,
+        ) {
+            return Ok(Err(Code::InvalidRequest));
+        }
+        if let Some(code) = found.refuses(copy.key.bytes(), &copy.only_if) {
+            return Ok(Err(code));
+        }
+        Ok(Ok(object.copied(&copy.replaced, label.moment)?))
+    }
+
     /// Where memory runs out, the state is as before.
     fn copy_part(&mut self, copy: &PartCopy, label: &Label) -> Result<Reply, Memory>
         ensures settings { self.new.settings ≡ self.old.settings }
@@ -177,36 +196,48 @@ impl Native {
             (OnCopies (CopyPart copy.now)) label.now reply self.new.state) }
         ensures err { OnErr result (self.new.state ≡ self.old.state) }
     {
-        let Some(found) = self.buckets.get(copy.bucket.bytes()) else {
-            return Ok(Reply::Refused(Code::NoSuchBucket));
+        let body = match self.copied_body(copy, label)? {
+            Ok(body) => body,
+            Err(code) => return Ok(Reply::Refused(code)),
         };
-        let Some(upload) = found.uploads.get(copy.id.as_slice()) else {
-            return Ok(Reply::Refused(Code::NoSuchUpload));
-        };
-        if !upload.is_of(copy.key.bytes()) {
-            return Ok(Reply::Refused(Code::NoSuchUpload));
-        }
-        let Some(source) = self.buckets.get(copy.from_bucket.bytes()) else {
-            return Ok(Reply::Refused(Code::NoSuchBucket));
-        };
-        let Some(object) = source.object(copy.from_key.bytes()) else {
-            return Ok(Reply::Refused(Code::NoSuchKey));
-        };
-        if !object.may_be_copied(&copy.conditions)? {
-            return Ok(Reply::Refused(Code::PreconditionFailed));
-        }
-        if !object.has_last(&copy.range) {
-            return Ok(Reply::Refused(Code::InvalidRange));
-        }
-        if object.is_too_large(&self.settings, &copy.range) {
-            return Ok(Reply::Refused(Code::EntityTooLarge));
-        }
-        let body = object.part_body(self.alloc, &copy.range)?;
         let etag = self.put_body(&copy.bucket, &copy.id, copy.number, &body, label)?;
         Ok(Reply::Copied(CopiedBytes {
             part: true,
             etag,
             modified: label.moment,
         }))
+    }
+
+    /// The body of the part that is to be put, or the code by which none is. It changes nothing.
+    fn copied_body(&self, copy: &PartCopy, label: &Label) -> Result<Result<Body, Code>, Memory>
+        ensures { IfOk result (λ made. StepsTo self.now.settings self.now.state
+            (OnCopies (CopyPart copy.now)) label.now
+            (part_copied_to self.now.state copy.now label.now.moment made)) }
+    {
+        let Some(found) = self.buckets.get(copy.bucket.bytes()) else {
+            return Ok(Err(Code::NoSuchBucket));
+        };
+        let Some(upload) = found.uploads.get(copy.id.as_slice()) else {
+            return Ok(Err(Code::NoSuchUpload));
+        };
+        if !upload.is_of(copy.key.bytes()) {
+            return Ok(Err(Code::NoSuchUpload));
+        }
+        let Some(source) = self.buckets.get(copy.from_bucket.bytes()) else {
+            return Ok(Err(Code::NoSuchBucket));
+        };
+        let Some(object) = source.object(copy.from_key.bytes()) else {
+            return Ok(Err(Code::NoSuchKey));
+        };
+        if !object.may_be_copied(&copy.conditions)? {
+            return Ok(Err(Code::PreconditionFailed));
+        }
+        if !object.has_last(&copy.range) {
+            return Ok(Err(Code::InvalidRange(None)));
+        }
+        if object.is_too_large(&self.settings, &copy.range) {
+            return Ok(Err(Code::EntityTooLarge));
+        }
+        Ok(Ok(object.part_body(self.alloc, &copy.range)?))
     }
 }

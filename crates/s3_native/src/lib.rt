@@ -8,6 +8,7 @@ mod listing;
 mod named;
 mod native;
 mod numbered;
+mod settings;
 mod upload;
 mod uploads;
 

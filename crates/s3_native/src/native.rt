@@ -1,4 +1,6 @@
 //! The machine's running form: plain and slow, for tests.
+#![tactic(auto, using(crate::proofs::Steps::plain))]
+
 ghost use Rattle.std.specs.Prelude.{◌≡◌, ◌-◌, ◌^◌, IfOk, OnErr, OnOk, length, min};
 ghost use Rattle.std.specs.FinMap.{empty};
 ghost use Rattle.gate_base.specs.Maps.{adjust};
@@ -26,13 +28,14 @@ use crate::kept::NativeKept;
 use crate::listing::native_listed_items;
 use crate::named::Named;
 use crate::upload::NativeUpload;
-use gate_base::{Bytes, Caller, Copying, List, Memory};
+use gate_base::{Bytes, Caller, Copying, List, Memory, Pair};
 use name_table::Table;
 use s3_machine::{
-    Asked, BucketAcl, BucketItem, Code, Conditions, Content, DeletedKeys, Item, ItemHead, Judged,
-    Label, ObjectBytes, ObjectDeletion, ObjectHead, ObjectListing, ObjectName, ObjectPage,
-    ObjectPut, ObjectRead, ObjectsDeletion, ObjectsOp, ObjectsReply, OnlyIf, Op, Range, Reply,
-    Settings, Span, is_other_acl, judge, may_read,
+    Asked, BucketAcl, BucketItem, BucketListing, BucketPage, Code, Content, DeletedKeys, Item,
+    ItemHead, Judged, Label, ObjectBytes, ObjectDeletion, ObjectHead, ObjectListing, ObjectName,
+    ObjectPage, ObjectPut, ObjectRead, ObjectsDeletion, ObjectsOp, ObjectsReply, OnlyIf, Op,
+    PartNumber, Proper, Reply, Settings, Span, StoredBytes, bucket_page, copy_option, is_of_parts,
+    is_other_acl, judge_part, may_read, parts_in, range_code,
 };
 use s3_names::{Acl, BucketName, Key, Meta};
 use std::alloc::Global;
@@ -63,7 +66,10 @@ impl Model for NativeObject {
 impl NativeObject {
     ghost use Rattle.std.specs.Prelude.{◌+◌, ◌≤◌, length};
     ghost use Rattle.s3_machine.specs.Reading.{taken};
-    ghost use Rattle.s3_machine.specs.Step.{got, head_of, headed, item_head, new_object};
+    ghost use Rattle.s3_machine.specs.Step.{got, head_of, headed, item_head, judged_read, new_object};
+    ghost use Rattle.s3_machine.specs.Parts.{parts_in};
+    ghost use Rattle.s3_native.specs.Reads.{chosen_part};
+    ghost use Rattle.std.specs.Prelude.{option_and_then};
 
     fn new(alloc: Global, moment: u64, content: &Content) -> Result<NativeObject, Memory>
         ensures { IfOk result
@@ -91,6 +97,17 @@ impl NativeObject {
         })
     }
 
+    /// What its PUT is answered, of which this checksum was compared.
+    fn stored(&self, checksum: &Option<Pair>) -> Result<StoredBytes, Memory>
+        ensures { IfOk result
+            (λ stored. stored ≡ record { etag = self.now.etag; checksum = checksum.now }) }
+    {
+        Ok(StoredBytes {
+            etag: self.etag.copy()?,
+            checksum: copy_option(checksum)?,
+        })
+    }
+
     /// What a listing tells of it.
     pub(crate) fn item_head(&self) -> Result<ItemHead, Memory>
         ensures { IfOk result (λ head. head ≡ item_head self.now) }
@@ -102,50 +119,85 @@ impl NativeObject {
         })
     }
 
+    /// The bytes of the part that is asked for, as this machine chooses them: an object of parts it has none of.
+    fn chosen_part(&self, part: Option<PartNumber>) -> Option<Span>
+        ensures { result ≡ chosen_part part self.now }
+    {
+        let Some(part) = part else {
+            return None;
+        };
+        if is_of_parts(self.etag.as_slice()) || part.get() != 1 {
+            return None;
+        }
+        Some(Span {
+            from: 0,
+            length: self.bytes.len() as u64,
+        })
+    }
+
+    /// What a read of it comes to.
+    fn judged(&self, read: &ObjectRead, head: &ObjectHead) -> Judged
+        ensures { result ≡ judged_read read.now (chosen_part read.now.part self.now) head.now }
+    {
+        judge_part(
+            read.part,
+            self.chosen_part(read.part),
+            read.range,
+            &read.conditions,
+            head,
+        )
+    }
+
+    /// How many parts it has, where a part is asked for.
+    fn parts_shown(&self, part: Option<PartNumber>) -> Option<u32>
+        ensures { result ≡ option_and_then (λ n. parts_in self.now.etag) part }
+    {
+        match part {
+            Some(_) => parts_in(self.etag.as_slice()),
+            None => None,
+        }
+    }
+
     /// The answer to GetObject.
-    fn got(
-        &self,
-        alloc: Global,
-        range: Option<Range>,
-        conditions: &Conditions,
-    ) -> Result<Reply, Memory>
-        ensures { IfOk result (λ reply. reply ≡ got range conditions.now self.now) }
+    fn got(&self, alloc: Global, read: &ObjectRead) -> Result<Reply, Memory>
+        ensures { IfOk result
+            (λ reply. reply ≡ got read.now (chosen_part read.now.part self.now) self.now) }
     {
         let head = self.head()?;
-        match judge(range, conditions, &head) {
+        match self.judged(read, &head) {
             Judged::PreconditionFailed => Ok(Reply::Refused(Code::PreconditionFailed)),
             Judged::NotModified => Ok(Reply::NotModified(head)),
-            Judged::InvalidRange => Ok(Reply::Refused(Code::InvalidRange)),
+            Judged::InvalidRange => Ok(Reply::Refused(range_code(read.part, head.size))),
             Judged::Bytes { span, partial } => Ok(Reply::Object(ObjectBytes {
                 head,
                 from: span.from,
                 length: span.length,
                 partial,
                 body: self.taken(alloc, span)?,
+                shown: read.shown.copy()?,
+                parts: self.parts_shown(read.part),
             })),
         }
     }
 
     /// The answer to HeadObject.
-    fn headed(
-        &self,
-        alloc: Global,
-        range: Option<Range>,
-        conditions: &Conditions,
-    ) -> Result<Reply, Memory>
-        ensures { IfOk result (λ reply. reply ≡ headed range conditions.now self.now) }
+    fn headed(&self, alloc: Global, read: &ObjectRead) -> Result<Reply, Memory>
+        ensures { IfOk result
+            (λ reply. reply ≡ headed read.now (chosen_part read.now.part self.now) self.now) }
     {
         let head = self.head()?;
-        match judge(range, conditions, &head) {
+        match self.judged(read, &head) {
             Judged::PreconditionFailed => Ok(Reply::Refused(Code::PreconditionFailed)),
             Judged::NotModified => Ok(Reply::NotModified(head)),
-            Judged::InvalidRange => Ok(Reply::Refused(Code::InvalidRange)),
+            Judged::InvalidRange => Ok(Reply::Refused(range_code(read.part, head.size))),
             Judged::Bytes { span, partial } => Ok(Reply::Object(ObjectBytes {
                 head,
                 from: span.from,
                 length: span.length,
                 partial,
                 body: Bytes::new(alloc),
+                shown: read.shown.copy()?,
+                parts: self.parts_shown(read.part),
             })),
         }
     }
@@ -420,7 +472,7 @@ impl Native {
         ensures err { OnErr result (self.new.state ≡ self.old.state) }
     {
         match op {
-            ObjectsOp::ListBuckets => self.list_buckets(label),
+            ObjectsOp::ListBuckets(asked) => self.list_buckets(asked, label),
             ObjectsOp::CreateBucket(made) => self.create_bucket(made, label),
             ObjectsOp::DeleteBucket(bucket) => Ok(self.delete_bucket(bucket, label)),
             ObjectsOp::HeadBucket(bucket) => Ok(self.head_bucket(bucket, label)),
@@ -433,6 +485,8 @@ impl Native {
             ObjectsOp::DeleteObject(deletion) => Ok(self.delete_object(deletion, label)),
             ObjectsOp::DeleteObjects(many) => self.delete_objects(many, label),
             ObjectsOp::GetObjectAcl(name) => Ok(self.get_object_acl(name, label)),
+            ObjectsOp::PutObjectAcl(set) => Ok(self.put_object_acl(set, label)),
+            ObjectsOp::GetSetting(read) => self.get_setting(read, label),
         }
     }
 
@@ -448,12 +502,19 @@ impl Native {
         count
     }
 
-    fn list_buckets(&self, label: &Label) -> Result<Reply, Memory>
+    #[tactic(auto, using(s3_machine::proofs::lemmas::StepLemmas::step_listed))]
+    fn list_buckets(&self, asked: &Proper<BucketListing>, label: &Label) -> Result<Reply, Memory>
         ensures { IfOk result (λ reply. S3Step self.now.settings self.now.state
-            (OnObjects ListBuckets) label.now reply self.now.state) }
+            (OnObjects (ListBuckets asked.now)) label.now reply self.now.state) }
     {
-        let items = native_bucket_items(&self.buckets, self.alloc)?;
-        Ok(Reply::OfObjects(ObjectsReply::Buckets(items)))
+        let asked = asked.get();
+        let all = native_bucket_items(&self.buckets, self.alloc)?;
+        let (items, truncated) = bucket_page(asked, all);
+        Ok(Reply::OfObjects(ObjectsReply::Buckets(BucketPage {
+            asked: asked.copy()?,
+            items,
+            truncated,
+        })))
     }
 
     /// Where memory runs out, the state is as before.
@@ -585,16 +646,17 @@ impl Native {
             return Ok(Reply::Refused(code));
         }
         let object = NativeObject::new(self.alloc, label.moment, put.content.get())?;
-        let etag = object.etag.copy()?;
+        let stored = object.stored(&put.checksum)?;
         put_object(
             &mut self.buckets,
             put.bucket.bytes(),
             put.key.bytes(),
             object,
         )?;
-        Ok(Reply::Stored(etag))
+        Ok(Reply::Stored(stored))
     }
 
+    #[tactic(auto, using(crate::proofs::ReadSteps::get_missing, crate::proofs::ReadSteps::get_refused, crate::proofs::ReadSteps::get_none, crate::proofs::ReadSteps::get_there))]
     fn get_object(&self, read: &ObjectRead, label: &Label) -> Result<Reply, Memory>
         ensures { IfOk result (λ reply. S3Step self.now.settings self.now.state
             (GetObject read.now) label.now reply self.now.state) }
@@ -608,9 +670,10 @@ impl Native {
         let Some(object) = found.object(read.key.bytes()) else {
             return Ok(Reply::Refused(Code::NoSuchKey));
         };
-        object.got(self.alloc, read.range, &read.conditions)
+        object.got(self.alloc, read)
     }
 
+    #[tactic(auto, using(crate::proofs::ReadSteps::head_missing, crate::proofs::ReadSteps::head_refused, crate::proofs::ReadSteps::head_none, crate::proofs::ReadSteps::head_there))]
     fn head_object(&self, read: &ObjectRead, label: &Label) -> Result<Reply, Memory>
         ensures { IfOk result (λ reply. S3Step self.now.settings self.now.state
             (OnObjects (HeadObject read.now)) label.now reply self.now.state) }
@@ -624,7 +687,7 @@ impl Native {
         let Some(object) = found.object(read.key.bytes()) else {
             return Ok(Reply::Refused(Code::NoSuchKey));
         };
-        object.headed(self.alloc, read.range, &read.conditions)
+        object.headed(self.alloc, read)
     }
 
     fn delete_object(&mut self, deletion: &ObjectDeletion, label: &Label) -> Reply

@@ -1,4 +1,6 @@
 //! The operations on uploads in the machine's running form.
+#![tactic(auto, using(crate::proofs::Steps::plain))]
+
 ghost use Rattle.std.specs.Prelude.{◌≡◌, map, IfOk, IfSome, IsTrue, false, None, is_some, OnOk, OnErr, Some};
 ghost use Rattle.std.specs.FinMap.{entries, from_entries, get};
 ghost use Rattle.std.specs.List.{filter};
@@ -23,6 +25,7 @@ ghost use Rattle.s3_machine.specs.Uploads.{
   uploads_after,
   with_part,
 };
+ghost use Rattle.s3_native.specs.Made.{StepsTo, completed_to};
 ghost use Rattle.s3_native.specs.Native.{added, closed, upload_item};
 ghost use Rattle.s3_native.specs.NewIds.{GivesFirstId, IsFirstNewId};
 
@@ -35,8 +38,8 @@ use gate_base::{Bytes, Copying, List, Memory};
 use name_table::Table;
 use s3_machine::{
     Body, Code, CompletedObject, Label, Listed, PartListing, PartNumber, PartPage, PartPut,
-    PartsAsked, Reply, StartedUpload, UploadCompletion, UploadItem, UploadListing, UploadName,
-    UploadPage, UploadStart, UploadsOp, UploadsReply, begins,
+    PartsAsked, Reply, StartedUpload, StoredBytes, UploadCompletion, UploadItem, UploadListing,
+    UploadName, UploadPage, UploadStart, UploadsOp, UploadsReply, begins, copy_option,
 };
 use s3_names::{BucketName, id_digits, read_id_digits};
 use std::alloc::Global;
@@ -327,6 +330,18 @@ fn close_native_upload(
     }
 }
 
+/// What a completion is answered by the ETag of its object.
+fn completed_object(done: &UploadCompletion, etag: Bytes) -> Result<CompletedObject, Memory>
+    ensures { IfOk result (λ told. told ≡ record
+        { bucket = done.now.bucket; key = done.now.key; etag = etag }) }
+{
+    Ok(CompletedObject {
+        bucket: done.bucket.copy_text()?,
+        key: done.key.copy_text()?,
+        etag,
+    })
+}
+
 impl Native {
     /// A step of an operation on uploads.
     pub(crate) fn step_upload(&mut self, op: &UploadsOp, label: &Label) -> Result<Reply, Memory>
@@ -372,7 +387,7 @@ impl Native {
     }
 
     /// Where memory runs out, the state is as before.
-    #[tactic(auto, using(crate::proofs::Completing::starts_flat, crate::proofs::NewIds::first_in, s3_machine::proofs::lemmas::StepLemmas::start_with_another_acl))]
+    #[tactic(auto, using(crate::proofs::NewIds::first_in, crate::proofs::Steps::plain, s3_machine::proofs::lemmas::StepLemmas::start_with_another_acl))]
     fn create_upload(&mut self, start: &UploadStart, label: &Label) -> Result<Reply, Memory>
         ensures settings { self.new.settings ≡ self.old.settings }
         ensures ok { IfOk result (λ reply. S3Step self.old.settings self.old.state
@@ -419,8 +434,10 @@ impl Native {
         if !upload.is_of(part.key.bytes()) {
             return Ok(Reply::Refused(Code::NoSuchUpload));
         }
+        // What may fail comes before the part is put.
+        let checksum = copy_option(&part.checksum)?;
         let etag = self.put_body(&part.bucket, &part.id, part.number, part.body.get(), label)?;
-        Ok(Reply::Stored(etag))
+        Ok(Reply::Stored(StoredBytes { etag, checksum }))
     }
 
     /// Puts a part of these bytes into an upload, and gives its ETag. Where memory runs out, the state is as before.
@@ -516,11 +533,10 @@ impl Native {
             done.id.as_slice(),
             done.list.get().as_slice(),
         )? {
-            Some(etag) => Ok(Reply::OfUploads(UploadsReply::Completed(CompletedObject {
-                bucket: done.bucket.copy_text()?,
-                key: done.key.copy_text()?,
-                etag,
-            }))),
+            Some(etag) => {
+                let told = completed_object(done, etag)?;
+                Ok(Reply::OfUploads(UploadsReply::Completed(told)))
+            }
             None => self.complete_open(done, label),
         }
     }
@@ -534,25 +550,11 @@ impl Native {
             (OnUploads (CompleteUpload done.now)) label.now reply self.new.state) }
         ensures err { OnErr result (self.new.state ≡ self.old.state) }
     {
-        let list = done.list.get();
-        let Some(found) = self.buckets.get(done.bucket.bytes()) else {
-            return Ok(Reply::Refused(Code::NoSuchBucket));
+        let (etag, object, kept) = match self.completed_open(done, label)? {
+            Ok(made) => made,
+            Err(code) => return Ok(Reply::Refused(code)),
         };
-        let Some(upload) = found.uploads.get(done.id.as_slice()) else {
-            return Ok(Reply::Refused(Code::NoSuchUpload));
-        };
-        if !upload.is_of(done.key.bytes()) {
-            return Ok(Reply::Refused(Code::NoSuchUpload));
-        }
-        if let Some(code) = upload.refuses(self.settings.least_part, list.as_slice()) {
-            return Ok(Reply::Refused(code));
-        }
-        if let Some(code) = found.refuses(done.key.bytes(), &done.only_if) {
-            return Ok(Reply::Refused(code));
-        }
-        let bucket = done.bucket.copy_text()?;
-        let key = done.key.copy_text()?;
-        let (etag, object, kept) = upload.completed(self.alloc, list, label.moment)?;
+        let told = completed_object(done, etag)?;
         close_native_upload(
             &mut self.buckets,
             done.bucket.bytes(),
@@ -561,6 +563,37 @@ impl Native {
             object,
             kept,
         )?;
-        Ok(Reply::OfUploads(UploadsReply::Completed(CompletedObject { bucket, key, etag })))
+        Ok(Reply::OfUploads(UploadsReply::Completed(told)))
+    }
+
+    /// The ETag, the object and what is kept of a completion that isn't kept, or the code that refuses it. It changes nothing.
+    fn completed_open(
+        &self,
+        done: &UploadCompletion,
+        label: &Label,
+    ) -> Result<Result<(Bytes, NativeObject, NativeKept), Code>, Memory>
+        requires { (b : Bucket) → get self.now.state done.now.bucket ≡ Some b
+            → kept_as done.now.key done.now.list (get b.kept done.now.id) ≡ None }
+        ensures { IfOk result (λ made. StepsTo self.now.settings self.now.state
+            (OnUploads (CompleteUpload done.now)) label.now
+            (completed_to self.now.state done.now made)) }
+    {
+        let list = done.list.get();
+        let Some(found) = self.buckets.get(done.bucket.bytes()) else {
+            return Ok(Err(Code::NoSuchBucket));
+        };
+        let Some(upload) = found.uploads.get(done.id.as_slice()) else {
+            return Ok(Err(Code::NoSuchUpload));
+        };
+        if !upload.is_of(done.key.bytes()) {
+            return Ok(Err(Code::NoSuchUpload));
+        }
+        if let Some(code) = upload.refuses(self.settings.least_part, list.as_slice()) {
+            return Ok(Err(code));
+        }
+        if let Some(code) = found.refuses(done.key.bytes(), &done.only_if) {
+            return Ok(Err(code));
+        }
+        Ok(Ok(upload.completed(self.alloc, list, label.moment)?))
     }
 }

@@ -19,6 +19,11 @@ pub seven_pieces : (a b c d e f g s1 s2 s3 s4 s5 s6 s7 : List ℕ) → s1 ≡ a 
 seven_pieces a b c d e f g s1 s2 s3 s4 s5 s6 s7 one two three four five six seven =
     seven ∙ ap (λ s. s ++ g) (six ∙ ap (λ s. s ++ f) (four_pieces s1 b c d e s2 s3 s4 s5 two three four five ∙ ap (λ s. s ++ (b ++ c ++ d ++ e)) one)) ∙ simp append_assoc
 
+pub eight_pieces : (a b c d e f g h s1 s2 s3 s4 s5 s6 s7 s8 : List ℕ) → s1 ≡ a → s2 ≡ s1 ++ b → s3 ≡ s2 ++ c → s4 ≡ s3 ++ d → s5 ≡ s4 ++ e → s6 ≡ s5 ++ f → s7 ≡ s6 ++ g
+    → s8 ≡ s7 ++ h → s8 ≡ a ++ b ++ c ++ d ++ e ++ f ++ g ++ h
+eight_pieces a b c d e f g h s1 s2 s3 s4 s5 s6 s7 s8 one two three four five six seven eight =
+    eight ∙ ap (λ s. s ++ h) (seven_pieces a b c d e f g s1 s2 s3 s4 s5 s6 s7 one two three four five six seven) ∙ simp append_assoc
+
 pub nine_pieces : (a b c d e f g h i s1 s2 s3 s4 s5 s6 s7 s8 s9 : List ℕ) → s1 ≡ a → s2 ≡ s1 ++ b → s3 ≡ s2 ++ c → s4 ≡ s3 ++ d → s5 ≡ s4 ++ e → s6 ≡ s5 ++ f → s7 ≡ s6 ++ g
     → s8 ≡ s7 ++ h → s9 ≡ s8 ++ i → s9 ≡ a ++ b ++ c ++ d ++ e ++ f ++ g ++ h ++ i
 nine_pieces a b c d e f g h i s1 s2 s3 s4 s5 s6 s7 s8 s9 one two three four five six seven eight nine =

@@ -35,6 +35,8 @@ use Rattle.s3_machine.specs.declared.items.Item.{Item}
 use Rattle.s3_machine.specs.declared.items.ItemHead.{ItemHead}
 use Rattle.s3_machine.specs.declared.items.PartItem.{PartItem}
 use Rattle.s3_machine.specs.declared.items.UploadItem.{UploadItem}
+use Rattle.s3_machine.specs.declared.operation.BucketPage.{BucketPage}
+use Rattle.s3_machine.specs.declared.unset.UnsetPage.{UnsetPage}
 use Rattle.s3_pages.specs.Date.{iso_time}
 use Rattle.s3_pages.specs.Texts.{id_text, quoted}
 use Rattle.s3_pages.specs.Xml.{declaration, element, escaped, root, end_of}
@@ -97,15 +99,31 @@ bucket_element item =
     ++ time_element (codes "CreationDate") item.created
     ++ codes "</Bucket>"
 
-unfoldable pub buckets_body : List BucketItem → List ℕ
-buckets_body items =
+-- the token of the next page is the last bucket's name, in lower-case hexadecimal as that of a listing
+abbrev pub last_bucket : List BucketItem → List ℕ
+last_bucket items = option_map_or (λ item. item.name) (slice_get items (length items - 1)) []
+
+abbrev pub next_buckets : Bool → List BucketItem → List ℕ
+next_buckets truncated items = where_true truncated (element (codes "ContinuationToken") (encode_lower (last_bucket items)))
+
+abbrev pub buckets_prefix : List ℕ → List ℕ
+buckets_prefix prefix = where_true (is_filled prefix) (element (codes "Prefix") prefix)
+
+unfoldable pub buckets_body : BucketPage → List ℕ
+buckets_body page =
     declaration
     ++ root (codes "ListAllMyBucketsResult")
     ++ owner
     ++ codes "<Buckets>"
-    ++ flat_map bucket_element items
+    ++ flat_map bucket_element page.items
     ++ codes "</Buckets>"
+    ++ next_buckets page.truncated page.items
+    ++ buckets_prefix page.asked.prefix
     ++ end_of (codes "ListAllMyBucketsResult")
+
+-- a setting that nothing sets: its root, with what stands inside it
+unfoldable pub setting_body : UnsetPage → List ℕ
+setting_body page = declaration ++ root page.root ++ page.inside ++ end_of page.root
 
 -- the region `us-east-1` is told by no text
 abbrev pub region_in_location_page : List ℕ → List ℕ

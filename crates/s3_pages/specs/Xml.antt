@@ -1,7 +1,9 @@
 -- XML that is written. Source: Extensible Markup Language 1.0; which bytes are escaped is this profile's.
-use Rattle.std.specs.Prelude.{ℕ, Bool, true, false, ◌==◌, nat_lt, if◌then◌else◌, List, [], ◌∷◌, ◌++◌, codes, decimal}
+use Rattle.std.specs.Prelude.{ℕ, Bool, true, false, ◌==◌, nat_lt, if◌then◌else◌, List, [], ◌∷◌, ◌++◌, codes, decimal, Option, Some}
 use Rattle.std.specs.List.{flat_map}
 use Rattle.s3_machine.specs.declared.code.Code.{Code}
+use Rattle.s3_machine.specs.declared.code.Code.TheVariants.{AuthorizationHeaderMalformed, InvalidRange}
+use Rattle.s3_pages.specs.declared.context.ExtendedPage.{ExtendedPage}
 use Rattle.s3_pages.specs.Codes.{name_of, message_of}
 use Rattle.s3_pages.specs.Texts.{id_text}
 
@@ -35,8 +37,15 @@ root name = codes "<" ++ name ++ codes " xmlns=\"http://s3.amazonaws.com/doc/200
 unfoldable pub end_of : List ℕ → List ℕ
 end_of name = codes "</" ++ name ++ codes ">"
 
+-- what a refusal tells behind its message, where the settings are extended: the region for which a request should be signed, and the size
+-- of an object that has no byte of the range
+abbrev pub error_details : Option ExtendedPage → Code → List ℕ
+error_details (Some extended) AuthorizationHeaderMalformed = element (codes "Region") extended.region
+error_details (Some extended) (InvalidRange (Some size)) = element (codes "ActualObjectSize") (decimal size)
+error_details _ code = []
+
 -- the body of a refusal: its code, its message, the path that was asked for, and the id of the request
-unfoldable pub error_body : Code → List ℕ → ℕ → List ℕ
-error_body code resource id =
+unfoldable pub error_body : Option ExtendedPage → Code → List ℕ → ℕ → List ℕ
+error_body extended code resource id =
     declaration ++ codes "<Error>" ++ element (codes "Code") (name_of code) ++ element (codes "Message") (message_of code)
-    ++ element (codes "Resource") resource ++ element (codes "RequestId") (id_text id) ++ codes "</Error>"
+    ++ error_details extended code ++ element (codes "Resource") resource ++ element (codes "RequestId") (id_text id) ++ codes "</Error>"

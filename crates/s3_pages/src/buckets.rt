@@ -2,44 +2,83 @@
 ghost use Rattle.std.specs.Prelude.{◌≡◌, ◌<◌, ◌++◌, IfOk, OnOk};
 ghost use Rattle.std.specs.List.{All, flat_map};
 ghost use Rattle.s3_machine.specs.Shown.{IsShownBucket};
-ghost use Rattle.s3_pages.specs.Bodies.{acl_body, bucket_element, buckets_body, location_body, public_grant, region_in_location_page};
+ghost use Rattle.s3_pages.specs.Bodies.{acl_body, bucket_element, buckets_body, buckets_prefix, last_bucket, location_body, next_buckets, setting_body, public_grant, region_in_location_page};
 ghost use Rattle.s3_pages.specs.Pages.{xml_page};
 
 use crate::pages::xml_headers;
 use crate::xml::Xml;
 use gate_base::{Bytes, Memory, Page};
-use s3_machine::{BucketItem, Label};
+use s3_machine::{BucketItem, BucketPage, Label, UnsetPage};
 use s3_names::Acl;
 use std::alloc::Global;
 
 /// The page of ListBuckets.
 pub(crate) fn buckets_reply_page(
     alloc: Global,
-    items: &[BucketItem],
+    listed: &BucketPage,
     label: &Label,
 ) -> Result<Page, Memory>
-    requires dated { All IsShownBucket items.now }
-    ensures { IfOk result (λ page. page ≡ xml_page 200 (buckets_body items.now) label.now) }
+    requires dated { All IsShownBucket listed.now.items }
+    ensures { IfOk result (λ page. page ≡ xml_page 200 (buckets_body listed.now) label.now) }
 {
     Ok(Page {
         status: 200,
         headers: xml_headers(alloc, label)?,
-        body: buckets_body(alloc, items)?,
+        body: buckets_body(alloc, listed)?,
     })
 }
 
 #[tactic(auto, unfolding(crate::specs::Bodies::buckets_body))]
-fn buckets_body(alloc: Global, items: &[BucketItem]) -> Result<Bytes, Memory>
-    requires { All IsShownBucket items.now }
-    ensures { IfOk result (λ body. body ≡ buckets_body items.now) }
+fn buckets_body(alloc: Global, listed: &BucketPage) -> Result<Bytes, Memory>
+    requires { All IsShownBucket listed.now.items }
+    ensures { IfOk result (λ body. body ≡ buckets_body listed.now) }
 {
+    let items = listed.items.as_slice();
     let mut xml = Xml::new(alloc)?;
     xml.root(b"ListAllMyBucketsResult")?;
     xml.owner()?;
     xml.tags(b"<Buckets>")?;
     xml.buckets(items)?;
     xml.tags(b"</Buckets>")?;
+    xml.next_buckets(listed.truncated, items)?;
+    xml.buckets_prefix(listed.asked.prefix.as_slice())?;
     xml.end(b"ListAllMyBucketsResult")?;
+    Ok(xml.text)
+}
+
+/// The name of the last bucket, if there is one.
+fn last_bucket(items: &[BucketItem]) -> &[u8]
+    ensures { result.now ≡ last_bucket items.now }
+{
+    match items.last() {
+        Some(item) => item.name.as_slice(),
+        None => b"",
+    }
+}
+
+/// The page of a setting that nothing sets.
+pub(crate) fn setting_reply_page(
+    alloc: Global,
+    setting: &UnsetPage,
+    label: &Label,
+) -> Result<Page, Memory>
+    ensures { IfOk result (λ page. page ≡ xml_page 200 (setting_body setting.now) label.now) }
+{
+    Ok(Page {
+        status: 200,
+        headers: xml_headers(alloc, label)?,
+        body: setting_body(alloc, setting)?,
+    })
+}
+
+#[tactic(auto, unfolding(crate::specs::Bodies::setting_body))]
+fn setting_body(alloc: Global, setting: &UnsetPage) -> Result<Bytes, Memory>
+    ensures { IfOk result (λ body. body ≡ setting_body setting.now) }
+{
+    let mut xml = Xml::new(alloc)?;
+    xml.root(setting.root.as_slice())?;
+    xml.tags(setting.inside.as_slice())?;
+    xml.end(setting.root.as_slice())?;
     Ok(xml.text)
 }
 
@@ -148,6 +187,28 @@ impl Xml {
             self.bucket(item)?;
         }
         Ok(())
+    }
+
+    /// The token of the next page, where there is one.
+    fn next_buckets(&mut self, truncated: bool, items: &[BucketItem]) -> Result<(), Memory>
+        ensures { OnOk result
+            (self.new.text ≡ self.old.text ++ next_buckets truncated items.now) }
+    {
+        if truncated {
+            self.hex(b"ContinuationToken", last_bucket(items))
+        } else {
+            Ok(())
+        }
+    }
+
+    fn buckets_prefix(&mut self, prefix: &[u8]) -> Result<(), Memory>
+        ensures { OnOk result (self.new.text ≡ self.old.text ++ buckets_prefix prefix.now) }
+    {
+        if prefix.is_empty() {
+            Ok(())
+        } else {
+            self.element(b"Prefix", prefix)
+        }
     }
 
     #[tactic(auto, unfolding(crate::specs::Bodies::bucket_element))]

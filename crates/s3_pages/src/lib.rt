@@ -3,13 +3,16 @@
 
 mod buckets;
 mod codes;
+mod context;
 mod copied;
 mod deleted;
 mod listing;
 mod object;
 mod pages;
+mod shown;
 mod texts;
 mod uploads;
 mod xml;
 
+pub use context::{ExtendedPage, PageContext};
 pub use pages::page;

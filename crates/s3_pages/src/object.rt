@@ -2,9 +2,10 @@
 ghost use Rattle.std.specs.Prelude.{◌≡◌, ◌<◌, ◌≤◌, ◌+◌, ◌^◌, [], ◌∷◌, ◌++◌, map, IfOk, OnOk, IsTrue};
 ghost use Rattle.gate_base.specs.Told.{moment_limit};
 ghost use Rattle.s3_machine.specs.Shown.{IsShown};
-ghost use Rattle.s3_pages.specs.Pages.{head_headers, meta_header, meta_name, object_headers, object_page, range_headers, range_text, read_status};
+ghost use Rattle.s3_pages.specs.Pages.{head_headers, meta_header, meta_name, object_headers, object_page, overlaid, parts_headers, range_headers, range_text, read_status};
 
 use crate::pages::{add_header, common};
+use crate::shown::show_headers;
 use crate::texts;
 use gate_base::{Bytes, List, Memory, Page, Pair};
 use s3_machine::{Label, ObjectBytes, ObjectHead};
@@ -18,8 +19,7 @@ pub(crate) fn object_reply_page(
     label: &Label,
 ) -> Result<Page, Memory>
     requires shown { IsShown object.head object.from object.length object.partial }
-    ensures { IfOk result (λ page. page
-        ≡ object_page object.head object.from object.length object.partial object.body label.now) }
+    ensures { IfOk result (λ page. page ≡ object_page object label.now) }
 {
     let headers = object_headers(alloc, &object, label)?;
     Ok(Page {
@@ -32,13 +32,11 @@ pub(crate) fn object_reply_page(
 /// The headers of an object, or of a part of it.
 fn object_headers(alloc: Global, object: &ObjectBytes, label: &Label) -> Result<List<Pair>, Memory>
     requires shown { IsShown object.now.head object.now.from object.now.length object.now.partial }
-    ensures { IfOk result (λ headers. headers
-        ≡ object_headers object.now.head object.now.from object.now.length object.now.partial
-        label.now) }
+    ensures { IfOk result (λ headers. headers ≡ object_headers object.now label.now) }
 {
-    let mut headers = common(alloc, label)?;
-    add_object_page_headers(alloc, &mut headers, &object.head)?;
-    add_metadata_page_headers(alloc, &mut headers, object.head.meta.pairs())?;
+    let first = common(alloc, label)?;
+    let own = own_headers(alloc, object)?;
+    let mut headers = joined_headers(first, own)?;
     add_range_page_header(
         alloc,
         &mut headers,
@@ -47,9 +45,48 @@ fn object_headers(alloc: Global, object: &ObjectBytes, label: &Label) -> Result<
         object.length,
         object.head.size,
     )?;
+    add_parts_header(alloc, &mut headers, object.parts)?;
     let number = decimal_text(alloc, object.length)?;
     add_header(alloc, &mut headers, b"Content-Length", number.as_slice())?;
     Ok(headers)
+}
+
+/// What is said of the object itself, with the headers that are shown in place of that.
+fn own_headers(alloc: Global, object: &ObjectBytes) -> Result<List<Pair>, Memory>
+    requires { object.now.head.modified < moment_limit }
+    ensures { IfOk result (λ headers. headers ≡ overlaid object.now.shown
+        (head_headers object.now.head ++ map meta_header object.now.head.meta)) }
+{
+    let mut headers = List::new(alloc);
+    add_object_page_headers(alloc, &mut headers, &object.head)?;
+    add_metadata_page_headers(alloc, &mut headers, object.head.meta.pairs())?;
+    show_headers(&mut headers, object.shown.as_slice())?;
+    Ok(headers)
+}
+
+/// The one headers, and then the others.
+fn joined_headers(headers: List<Pair>, more: List<Pair>) -> Result<List<Pair>, Memory>
+    ensures { IfOk result (λ all. all ≡ headers ++ more) }
+{
+    let mut all = headers.into_vec();
+    let mut more = more.into_vec();
+    all.append(&mut more)?;
+    Ok(List::from_vec(all))
+}
+
+/// Adds how many parts the object has, where that is told.
+fn add_parts_header(
+    alloc: Global,
+    headers: &mut List<Pair>,
+    parts: Option<u32>,
+) -> Result<(), Memory>
+    ensures { OnOk result (headers.new ≡ headers.old ++ parts_headers parts) }
+{
+    let Some(count) = parts else {
+        return Ok(());
+    };
+    let number = decimal_text(alloc, count as u64)?;
+    add_header(alloc, headers, b"x-amz-mp-parts-count", number.as_slice())
 }
 
 fn object_page_status(partial: bool) -> u16

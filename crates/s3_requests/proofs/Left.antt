@@ -1,6 +1,6 @@
 -- What is left to be tried against a request: each reason that doesn't hold goes, and where none is left, what is asked for keeps
 -- the limits of an operation.
-use Rattle.std.proofs.Common.{◌≡◌, ◌≢◌, ◌≤◌, ℕ, Bool, true, false, not, ◌&&◌, cond, nat_lt, List, [], ◌∷◌, length, Option, Some, None, find, refl, ap, sym, ◌∙◌, subst, arith}
+use Rattle.std.proofs.Common.{◌≡◌, ◌≢◌, ◌≤◌, ℕ, Bool, true, false, not, ◌&&◌, cond, nat_lt, List, [], ◌∷◌, ◌++◌, length, Option, Some, None, find, refl, ap, sym, ◌∙◌, subst, arith}
 use Rattle.std.specs.Prelude.{is_none, option_map}
 use Rattle.std.specs.Option.{unwrap_or}
 use Rattle.std.proofs.lemmas.Bool.{and_parts, not-false}
@@ -41,9 +41,9 @@ use Rattle.s3_requests.specs.Deletes.{no_deletes, given_deletes, has_bad_deletes
 use Rattle.s3_requests.specs.Uploads.{given_list, has_bad_list}
 use Rattle.s3_requests.specs.Named.{named_at}
 use Rattle.s3_requests.specs.Rows.{rows, row_for, shape_of, level_of, is_listing_of_bucket, is_same_level, is_same_set, fits}
-use Rattle.s3_requests.specs.Meaning.{Reason, first_refusal, target_reasons, reasons, content_reasons, row_of, judged, op_of, meaning_of, IsLeft}
+use Rattle.s3_requests.specs.Meaning.{Reason, first_code, first_refusal, target_reasons, reasons, content_reasons, row_of, judged, op_of, meaning_of, IsLeft}
 use Rattle.s3_requests.proofs.ProperCopies.{source_proper}
-use Rattle.s3_requests.proofs.Reasons.{NoneHolds, none_refuses, none_held}
+use Rattle.s3_requests.proofs.Reasons.{NoneHolds, code_passes, none_refuses, none_held}
 
 -- ---- from the target to the last reason
 
@@ -61,6 +61,14 @@ goes_on {asking = asking} {message = message} {this = this} {others = others} le
   named = left.named;
   is_row = left.is_row;
   so = left.so ∙ ap (λ b. cond b (Refused this.code) (first_refusal others (op_of asking.row message asking.target.now))) none;
+}
+
+-- reasons that have no code go
+pub goes_past : {asking : Asking} {message : Message} {others : List Reason} (list : List Reason) → IsLeft asking message (list ++ others) → first_code list ≡ None → IsLeft asking message others
+goes_past {asking = asking} {message = message} {others = others} list left none = record {
+  named = left.named;
+  is_row = left.is_row;
+  so = left.so ∙ code_passes list others (op_of asking.row message asking.target.now) none;
 }
 
 -- ---- the level of a row

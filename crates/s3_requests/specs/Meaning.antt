@@ -1,8 +1,9 @@
 -- What a request means: an operation, or the first reason to refuse it. Source: Amazon S3 API Reference, restated by
 -- this profile; the order of the refusals is this profile's.
-use Rattle.std.specs.Prelude.{◌≡◌, Bool, false, not, ◌&&◌, nat_lt, if◌then◌else◌, ℕ, List, [], ◌∷◌, length, Option, Some, None, option_map}
+use Rattle.std.specs.Prelude.{◌≡◌, Bool, false, not, ◌&&◌, nat_lt, if◌then◌else◌, ℕ, List, [], ◌∷◌, ◌++◌, length, Option, Some, None, option_map}
 use Rattle.gate_base.specs.declared.caller.Caller.{Caller}
-use Rattle.gate_base.specs.declared.caller.Caller.TheVariants.{Owner, Anonymous}
+use Rattle.gate_base.specs.declared.caller.Caller.TheVariants.{Owner, Reader, Anonymous}
+use Rattle.gate_base.specs.declared.page.Pair.{Pair}
 use Rattle.s3_names.specs.declared.key.TheConstants.{MOST_KEY_BYTES}
 use Rattle.s3_names.specs.declared.acl.Acl.{Acl}
 use Rattle.s3_names.specs.declared.acl.Acl.TheVariants.{Private}
@@ -37,6 +38,7 @@ use Rattle.request_fields.specs.Listings.{has_bad_word, has_long_text, has_bad_t
 use Rattle.request_fields.specs.Uploads.{has_bad_number, given_upload, given_part_number}
 use Rattle.request_fields.specs.Copies.{names_source}
 use Rattle.request_fields.specs.Content.{has_bad_digest, is_other_body, has_bad_entry}
+use Rattle.s3_machine.specs.Buckets.{all_buckets}
 use Rattle.s3_requests.specs.Query.{has_unknown_name, has_foreign_name}
 use Rattle.s3_requests.specs.Uploads.{uploads_asked, parts_asked, has_bad_list, given_list}
 use Rattle.s3_requests.specs.Deletes.{has_bad_deletes, given_deletes, deletes_asked}
@@ -57,6 +59,11 @@ abbrev pub first_refusal : List Reason → Meant → Meant
 first_refusal [] rest = rest
 first_refusal (reason ∷ reasons) rest = if reason.holds then Refused reason.code else first_refusal reasons rest
 
+-- the code of the first reason that holds, if one does
+abbrev pub first_code : List Reason → Option Code
+first_code [] = None
+first_code (reason ∷ reasons) = if reason.holds then Some reason.code else first_code reasons
+
 -- a target of a bucket or a key whose bucket is no bucket name
 abbrev pub has_bad_bucket : Target → Bool
 has_bad_bucket target = not (is_same_level (level_of target.bucket target.key) Service) && not (is_bucket target.bucket)
@@ -69,9 +76,10 @@ has_long_key target = nat_lt MOST_KEY_BYTES (length target.key)
 abbrev pub has_bad_key : Target → Bool
 has_bad_key target = is_same_level (level_of target.bucket target.key) Key && not (is_key target.key)
 
--- an anonymous caller asks for an operation that isn't open to all
+-- an anonymous caller asks for an operation that isn't open to all, or one who may only read for one that isn't a read
 abbrev pub is_row_denied : Row → Caller → Bool
 is_row_denied row Owner = false
+is_row_denied row Reader = not (shape_of row).is_read
 is_row_denied row Anonymous = not (shape_of row).is_open
 
 -- ---- the reasons, in the order in which they are tried
@@ -94,19 +102,26 @@ deletes_reasons row message caller = reason (has_bad_deletes row message.body) M
 abbrev pub list_reasons : Row → Message → Caller → List Reason
 list_reasons row message caller = reason (has_bad_list row message.body) MalformedXML ∷ deletes_reasons row message caller
 
+abbrev pub own_body_reasons : Settings → Row → List ℕ → List Reason
+own_body_reasons settings row body =
+    reason (asks_with_long_body settings body) EntityTooLarge
+    ∷ reason (has_bad_location row body) MalformedXML
+    ∷ reason (has_other_location row settings.region body) InvalidArgument
+    ∷ []
+
 abbrev pub body_reasons : Settings → Row → Message → Caller → List Reason
-body_reasons settings row message caller =
-    reason (asks_with_long_body settings message.body) EntityTooLarge
-    ∷ reason (has_bad_location row message.body) MalformedXML
-    ∷ reason (has_other_location row settings.region message.body) InvalidArgument
-    ∷ list_reasons row message caller
+body_reasons settings row message caller = own_body_reasons settings row message.body ++ list_reasons row message caller
+
+abbrev pub own_meta_reasons : Row → List Pair → List ℕ → List Reason
+own_meta_reasons row meta body =
+    reason (has_bad_entry meta) InvalidArgument
+    ∷ reason (has_body_of_copy row body) InvalidRequest
+    ∷ reason (not (is_proper_meta meta)) MetadataTooLarge
+    ∷ []
 
 abbrev pub meta_reasons : Settings → Row → Message → Caller → List Reason
 meta_reasons settings row message caller =
-    reason (has_bad_entry (taken_meta row message.headers)) InvalidArgument
-    ∷ reason (has_body_of_copy row message.body) InvalidRequest
-    ∷ reason (not (is_proper_meta (taken_meta row message.headers))) MetadataTooLarge
-    ∷ body_reasons settings row message caller
+    own_meta_reasons row (taken_meta row message.headers) message.body ++ body_reasons settings row message caller
 
 abbrev pub content_reasons : Settings → Row → Message → Caller → List Reason
 content_reasons settings row message caller =
@@ -166,7 +181,7 @@ put_acl bucket (Some acl) = Op (op.PutBucketAcl bucket acl)
 
 -- the operation that a row asks for
 abbrev pub op_of : Row → Message → Target → Meant
-op_of ListBuckets message target = Op op.ListBuckets
+op_of ListBuckets message target = Op (op.ListBuckets all_buckets)
 op_of CreateBucket message target = Op (op.CreateBucket target.bucket (or_private (given_acl message.headers)))
 op_of PutBucketAcl message target = put_acl target.bucket (given_acl message.headers)
 op_of DeleteBucket message target = Op (op.DeleteBucket target.bucket)
@@ -184,9 +199,10 @@ op_of PutObject message target =
     (taken_type PutObject message.headers)
     (taken_meta PutObject message.headers)
     message.body
-    Always)
-op_of GetObject message target = Op (op.GetObject target.bucket target.key (given_range message.headers) (given_conditions message.headers))
-op_of HeadObject message target = Op (op.HeadObject target.bucket target.key (given_range message.headers) (given_conditions message.headers))
+    Always
+    None)
+op_of GetObject message target = Op (op.GetObject target.bucket target.key (given_range message.headers) (given_conditions message.headers) None [])
+op_of HeadObject message target = Op (op.HeadObject target.bucket target.key (given_range message.headers) (given_conditions message.headers) None [])
 op_of DeleteObject message target = Op (op.DeleteObject target.bucket target.key Always)
 op_of GetObjectAcl message target = Op (op.GetObjectAcl target.bucket target.key)
 op_of ListMultipartUploads message target = Op (uploads_asked target.bucket target.query)
@@ -199,7 +215,7 @@ op_of CreateMultipartUpload message target =
     (given_acl message.headers)
     (taken_type CreateMultipartUpload message.headers)
     (taken_meta CreateMultipartUpload message.headers))
-op_of UploadPart message target = Op (op.UploadPart target.bucket target.key (given_upload target.query) (given_part_number target.query) message.body)
+op_of UploadPart message target = Op (op.UploadPart target.bucket target.key (given_upload target.query) (given_part_number target.query) message.body None)
 op_of ListParts message target = Op (parts_asked target.bucket target.key target.query)
 op_of AbortMultipartUpload message target = Op (op.AbortUpload target.bucket target.key (given_upload target.query))
 op_of CompleteMultipartUpload message target =

@@ -14,14 +14,15 @@ use Rattle.s3_requests.specs.declared.rows.Row.TheVariants.{HeadObject, DeleteOb
 use Rattle.s3_requests.specs.declared.rows.Row.TheVariants.{CompleteMultipartUpload, AbortMultipartUpload, DeleteObjects, CopyObject, UploadPartCopy}
 
 -- what the table says in a row: its method, its level, the selectors that the query has, and the further names that it may have;
--- whether anybody may ask for it, whether it takes a content type and metadata whatever else the headers say, whether its
--- body names a location, and whether the headers must name an access control list
+-- whether anybody may ask for it, whether one who may only read may, whether it takes a content type and metadata whatever else the
+-- headers say, whether its body names a location, and whether the headers must name an access control list
 pub record Shape : Type 0 where
   pub method : List ℕ
   pub level : Level
   pub selectors : List (List ℕ)
   pub further : List (List ℕ)
   pub is_open : Bool
+  pub is_read : Bool
   pub has_content : Bool
   pub has_location : Bool
   pub needs_acl : Bool
@@ -34,6 +35,7 @@ plain method level selectors further = record {
   selectors = selectors;
   further = further;
   is_open = false;
+  is_read = false;
   has_content = false;
   has_location = false;
   needs_acl = false;
@@ -42,6 +44,10 @@ plain method level selectors further = record {
 -- one that anybody may ask for
 abbrev pub for_all : Shape → Shape
 for_all shape = record shape { is_open = true }
+
+-- one that whoever may only read may ask for
+abbrev pub for_readers : Shape → Shape
+for_readers shape = record shape { is_read = true }
 
 -- one that takes a content type and metadata
 abbrev pub with_content : Shape → Shape
@@ -76,22 +82,22 @@ parts_names = codes "max-parts" ∷ codes "part-number-marker" ∷ []
 
 -- the table
 abbrev pub shape_of : Row → Shape
-shape_of ListBuckets = plain (codes "GET") Service [] []
+shape_of ListBuckets = for_readers (plain (codes "GET") Service [] [])
 shape_of CreateBucket = with_location (plain (codes "PUT") Bucket [] [])
 shape_of PutBucketAcl = with_acl (plain (codes "PUT") Bucket (codes "acl" ∷ []) [])
 shape_of DeleteBucket = plain (codes "DELETE") Bucket [] []
-shape_of HeadBucket = for_all (plain (codes "HEAD") Bucket [] [])
-shape_of GetBucketLocation = plain (codes "GET") Bucket (codes "location" ∷ []) []
-shape_of GetBucketAcl = plain (codes "GET") Bucket (codes "acl" ∷ []) []
-shape_of ListObjects = for_all (plain (codes "GET") Bucket [] objects_names)
-shape_of ListObjectsV2 = for_all (plain (codes "GET") Bucket (codes "list-type" ∷ []) objects_v2_names)
+shape_of HeadBucket = for_readers (for_all (plain (codes "HEAD") Bucket [] []))
+shape_of GetBucketLocation = for_readers (plain (codes "GET") Bucket (codes "location" ∷ []) [])
+shape_of GetBucketAcl = for_readers (plain (codes "GET") Bucket (codes "acl" ∷ []) [])
+shape_of ListObjects = for_readers (for_all (plain (codes "GET") Bucket [] objects_names))
+shape_of ListObjectsV2 = for_readers (for_all (plain (codes "GET") Bucket (codes "list-type" ∷ []) objects_v2_names))
 shape_of ListMultipartUploads = plain (codes "GET") Bucket (codes "uploads" ∷ []) uploads_names
 shape_of DeleteObjects = plain (codes "POST") Bucket (codes "delete" ∷ []) []
 shape_of PutObject = with_content (plain (codes "PUT") Key [] [])
-shape_of GetObject = for_all (plain (codes "GET") Key [] [])
-shape_of HeadObject = for_all (plain (codes "HEAD") Key [] [])
+shape_of GetObject = for_readers (for_all (plain (codes "GET") Key [] []))
+shape_of HeadObject = for_readers (for_all (plain (codes "HEAD") Key [] []))
 shape_of DeleteObject = plain (codes "DELETE") Key [] []
-shape_of GetObjectAcl = plain (codes "GET") Key (codes "acl" ∷ []) []
+shape_of GetObjectAcl = for_readers (plain (codes "GET") Key (codes "acl" ∷ []) [])
 shape_of CreateMultipartUpload = with_content (plain (codes "POST") Key (codes "uploads" ∷ []) [])
 shape_of UploadPart = plain (codes "PUT") Key (codes "partNumber" ∷ codes "uploadId" ∷ []) []
 shape_of ListParts = plain (codes "GET") Key (codes "uploadId" ∷ []) parts_names
@@ -105,6 +111,14 @@ abbrev pub takes_body : Row → Bool
 takes_body PutObject = true
 takes_body UploadPart = true
 takes_body _ = false
+
+-- a row whose operation takes what the headers give as one value
+abbrev pub takes_given : Row → Bool
+takes_given PutObject = true
+takes_given CreateMultipartUpload = true
+takes_given CopyObject = true
+takes_given UploadPartCopy = true
+takes_given _ = false
 
 -- a row of a bucket that lists what the bucket has
 abbrev pub is_listing_of_bucket : Row → Bool

@@ -1,15 +1,16 @@
 //! What a request means.
 ghost use Rattle.std.specs.Prelude.{◌≡◌, ◌≢◌, ◌&&◌, false, true, IfOk};
 ghost use Rattle.s3_machine.specs.Body.{IsDigestOf};
-ghost use Rattle.s3_machine.specs.Limits.{is_content_type};
+ghost use Rattle.s3_machine.specs.Limits.{is_content_type, is_proper_meta};
 ghost use Rattle.s3_machine.specs.Proper.{IsProperCode};
-ghost use Rattle.s3_requests.specs.Meaning.{first_refusal, reasons, header_reasons, digest_reasons, argument_reasons, source_reasons, content_reasons, meta_reasons, body_reasons, list_reasons, deletes_reasons, meaning_of, op_of, KeepsFront, is_row_denied, has_bad_bucket, row_of, IsLeft};
+ghost use Rattle.s3_requests.specs.Meaning.{first_code, first_refusal, reasons, header_reasons, digest_reasons, argument_reasons, source_reasons, content_reasons, meta_reasons, own_meta_reasons, body_reasons, own_body_reasons, list_reasons, deletes_reasons, caller_reasons, meaning_of, op_of, KeepsFront, is_row_denied, has_bad_bucket, row_of, IsLeft};
 ghost use Rattle.s3_requests.specs.declared.meant.Meant.TheVariants as variant;
 ghost use Rattle.s3_requests.specs.Rows.{shape_of, level_of, row_for};
 ghost use Rattle.s3_requests.specs.Meaning.{has_long_key, has_bad_key};
 ghost use Rattle.s3_requests.specs.Content.{taken_type, taken_meta};
 ghost use Rattle.request_fields.specs.Headers.{given_acl};
 ghost use Rattle.s3_requests.specs.Copies.{given_source};
+ghost use Rattle.s3_requests.specs.Deletes.{given_deletes};
 ghost use Rattle.s3_requests.specs.Taken.{given};
 ghost use Rattle.s3_requests.specs.Uploads.{given_list, taken_listed_parts};
 
@@ -22,7 +23,7 @@ use crate::query::{has_foreign_name, has_unknown_name};
 use crate::rows::{Level, Row, is_method, is_same_level, level_of, row_for, shape_of};
 use crate::taken::Taken;
 use crate::uploads::taken_listed_parts;
-use gate_base::{Bytes, Caller, List, Memory};
+use gate_base::{Bytes, Caller, List, Memory, Pair, drop};
 use http_wire::Message;
 use request_fields::{
     Source, given_acl, has_bad_digest, has_bad_entry, has_bad_number, has_bad_token, has_bad_word,
@@ -30,7 +31,7 @@ use request_fields::{
     is_conditional_write, is_other_body,
 };
 use s3_machine::{Code, Described, Listed, Op, Proper, Settings, is_content_type, is_proper_meta};
-use s3_names::{MOST_KEY_BYTES, Target, is_bucket, is_key};
+use s3_names::{MOST_KEY_BYTES, Meta, Target, is_bucket, is_key};
 use std::alloc::Global;
 
 /// What a request means.
@@ -323,26 +324,63 @@ fn meant_from_meta(
         (op_of asking.now.row message.entry.now asking.now.target.now)) }
     ensures keeps { KeepsFront message.entry.now message.exit.now }
 {
-    let headers = message.headers.as_slice();
-    let meta = taken_meta(alloc, asking.row, headers)?;
-    if has_bad_entry(&meta) {
-        return Ok(Meant::refused(Code::InvalidArgument));
+    let meta = taken_meta(alloc, asking.row, message.headers.as_slice())?;
+    match meta_refusal(asking.row, &meta, message.body.as_slice()) {
+        Some(code) => Ok(Meant::Refused(code)),
+        None => {
+            let taken = taken_with(
+                alloc,
+                message.headers.as_slice(),
+                content_type,
+                meta,
+                source,
+            )?;
+            meant_from_body(alloc, asking, message, taken, digest)
+        }
     }
-    if has_body_of_copy(asking.row, message.body.as_slice()) {
-        return Ok(Meant::refused(Code::InvalidRequest));
-    }
-    if !is_proper_meta(&meta) {
-        return Ok(Meant::refused(Code::MetadataTooLarge));
-    }
-    let taken = Taken {
-        acl: given_acl(alloc, headers)?,
-        described: Proper::of(Described { content_type, meta }),
-        source,
-    };
-    meant_from_body(alloc, asking, message, taken, digest)
 }
 
-/// The reasons against the body and the caller, and then the operation.
+/// The code of the first reason against metadata and the bytes of a copy.
+fn meta_refusal(row: Row, meta: &Meta, body: &[u8]) -> Option<Proper<Code>>
+    ensures { result ≡ first_code (own_meta_reasons row meta.now body.now) }
+{
+    if has_bad_entry(meta) {
+        return Some(Proper::of(Code::InvalidArgument));
+    }
+    if has_body_of_copy(row, body) {
+        return Some(Proper::of(Code::InvalidRequest));
+    }
+    if !is_proper_meta(meta) {
+        return Some(Proper::of(Code::MetadataTooLarge));
+    }
+    None
+}
+
+/// What the headers give, with the content type, the metadata and the source that were taken of them.
+fn taken_with(
+    alloc: Global,
+    headers: &[Pair],
+    content_type: Bytes,
+    meta: Meta,
+    source: Source,
+) -> Result<Taken, Memory>
+    requires typed { is_content_type content_type ≡ true }
+    requires described { is_proper_meta meta ≡ true }
+    ensures { IfOk result (λ taken. taken ≡ record {
+      acl = given_acl headers.now;
+      described = record { content_type = content_type; meta = meta };
+      source = source;
+    }) }
+{
+    let acl = given_acl(alloc, headers)?;
+    Ok(Taken {
+        acl,
+        described: Proper::of(Described { content_type, meta }),
+        source,
+    })
+}
+
+/// The reasons against the body and its location, and then those against the parts that it lists.
 fn meant_from_body(
     alloc: Global,
     asking: &Asking<'_>,
@@ -360,18 +398,33 @@ fn meant_from_body(
         (op_of asking.now.row message.entry.now asking.now.target.now)) }
     ensures keeps { KeepsFront message.entry.now message.exit.now }
 {
-    if asks_with_long_body(asking.settings, message.body.as_slice()) {
-        return Ok(Meant::refused(Code::EntityTooLarge));
+    match body_refusal(alloc, asking.settings, asking.row, message.body.as_slice())? {
+        Some(code) => Ok(Meant::Refused(code)),
+        None => meant_from_list(alloc, asking, message, taken, digest),
     }
-    let region = asking.settings.region.as_slice();
-    let (is_bad, is_other) = location_faults(alloc, asking.row, region, message.body.as_slice())?;
+}
+
+/// The code of the first reason against the length of the body and the location that it names.
+fn body_refusal(
+    alloc: Global,
+    settings: &Settings,
+    row: Row,
+    body: &[u8],
+) -> Result<Option<Proper<Code>>, Memory>
+    ensures { IfOk result
+        (λ code. code ≡ first_code (own_body_reasons settings.now row body.now)) }
+{
+    if asks_with_long_body(settings, body) {
+        return Ok(Some(Proper::of(Code::EntityTooLarge)));
+    }
+    let (is_bad, is_other) = location_faults(alloc, row, settings.region.as_slice(), body)?;
     if is_bad {
-        return Ok(Meant::refused(Code::MalformedXML));
+        return Ok(Some(Proper::of(Code::MalformedXML)));
     }
     if is_other {
-        return Ok(Meant::refused(Code::InvalidArgument));
+        return Ok(Some(Proper::of(Code::InvalidArgument)));
     }
-    meant_from_list(alloc, asking, message, taken, digest)
+    Ok(None)
 }
 
 /// The reasons against the parts that the body lists, and then those against the keys that it lists.
@@ -397,7 +450,7 @@ fn meant_from_list(
     }
 }
 
-/// The reasons against the keys that the body lists and against the caller, and then the operation.
+/// The reasons against the keys that the body lists, and then that against the caller.
 fn meant_from_deletes(
     alloc: Global,
     asking: &Asking<'_>,
@@ -419,17 +472,41 @@ fn meant_from_deletes(
     match taken_deletes(alloc, asking.row, message.body.as_slice())? {
         None => Ok(Meant::refused(Code::MalformedXML)),
         Some(deletes) => {
-            if is_row_denied(asking.row, *asking.caller) {
-                return Ok(Meant::refused(Code::AccessDenied));
-            }
             let body = BodyGiven {
                 list,
                 deletes,
                 digest,
             };
-            op_of(alloc, asking, message, taken, body)
+            meant_from_caller(alloc, asking, message, taken, body)
         }
     }
+}
+
+/// The reason against the caller, and then the operation.
+fn meant_from_caller(
+    alloc: Global,
+    asking: &Asking<'_>,
+    message: &mut Message,
+    taken: Taken,
+    body: BodyGiven,
+) -> Result<Meant, Memory>
+    requires left { IsLeft asking.now message.now
+        (caller_reasons asking.now.row asking.now.caller.now) }
+    requires taken { taken ≡ given asking.now.row message.now.headers }
+    requires list { body.list ≡ given_list asking.now.row message.now.body }
+    requires deletes { body.deletes ≡ given_deletes asking.now.row message.now.body }
+    requires digest { IsDigestOf body.digest message.now.body }
+    ensures value { IfOk result (λ meant. meant ≡ first_refusal
+        (caller_reasons asking.now.row asking.now.caller.now)
+        (op_of asking.now.row message.entry.now asking.now.target.now)) }
+    ensures keeps { KeepsFront message.entry.now message.exit.now }
+{
+    if is_row_denied(asking.row, *asking.caller) {
+        drop(taken);
+        drop(body);
+        return Ok(Meant::refused(Code::AccessDenied));
+    }
+    op_of(alloc, asking, message, taken, body)
 }
 
 fn level_of_target(target: &Target) -> Level
@@ -481,6 +558,7 @@ fn is_row_denied(row: Row, caller: Caller) -> bool
 {
     match caller {
         Caller::Owner => false,
+        Caller::Reader => !shape_of(row).is_read(),
         Caller::Anonymous => !shape_of(row).is_open(),
     }
 }

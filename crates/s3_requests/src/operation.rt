@@ -1,5 +1,6 @@
 //! The operation that a row asks for.
-ghost use Rattle.std.specs.Prelude.{◌≡◌, ◌≤◌, [], false, true, length, IfOk};
+ghost use Rattle.std.specs.Prelude.{◌≡◌, ◌≤◌, [], false, true, length, None, IfOk};
+ghost use Rattle.s3_machine.specs.Buckets.{all_buckets};
 ghost use Rattle.s3_machine.specs.Body.{IsDigestOf};
 ghost use Rattle.s3_names.specs.declared.target.Target.{Target};
 ghost use Rattle.http_wire.specs.declared.message.Message.{Message};
@@ -8,16 +9,16 @@ ghost use Rattle.s3_requests.specs.Meaning.{op_of, or_private, put_acl, IsLeft, 
 ghost use Rattle.s3_requests.specs.declared.rows.Level.TheVariants as level;
 ghost use Rattle.s3_machine.specs.Limits.{most_body_bytes};
 ghost use Rattle.s3_machine.specs.Ops as ops;
-ghost use Rattle.s3_machine.specs.Proper.{IsProperAsked, IsProperKeys, IsProperList};
+ghost use Rattle.s3_machine.specs.Proper.{IsPlace, IsProperAsked, IsProperKeys, IsProperList};
 ghost use Rattle.s3_machine.specs.declared.only_if.OnlyIf.TheVariants.{Always};
 ghost use Rattle.request_fields.specs.Listings.{has_long_text};
-ghost use Rattle.s3_requests.specs.Rows.{shape_of, takes_body};
+ghost use Rattle.s3_requests.specs.Rows.{shape_of, takes_body, takes_given};
 ghost use Rattle.request_fields.specs.Headers.{given_acl};
 ghost use Rattle.request_fields.specs.Conditions.{given_conditions};
 ghost use Rattle.request_fields.specs.Ranges.{given_range};
 ghost use Rattle.request_fields.specs.Listings.{first_asked, second_asked};
 ghost use Rattle.request_fields.specs.Uploads.{given_upload, given_part_number};
-ghost use Rattle.s3_requests.specs.Copies.{part_copy_asked};
+ghost use Rattle.s3_requests.specs.Copies.{is_copy, part_copy_asked};
 ghost use Rattle.s3_requests.specs.Taken.{given, copy_asked};
 ghost use Rattle.s3_requests.specs.Deletes.{deletes_asked, given_deletes};
 ghost use Rattle.s3_requests.specs.Uploads.{given_list, uploads_asked, parts_asked};
@@ -29,16 +30,17 @@ use crate::named::Named;
 use crate::rows::Row;
 use crate::taken::{Taken, copy_asked};
 use crate::uploads::{parts_asked, uploads_asked};
-use gate_base::{Bytes, Copying, List, Memory, Pair};
+use gate_base::{Bytes, Copying, List, Memory, Pair, drop};
 use http_wire::Message;
 use request_fields::{
-    first_asked, given_conditions, given_part_number, given_range, given_upload, second_asked,
+    Source, first_asked, given_conditions, given_part_number, given_range, given_upload,
+    second_asked,
 };
 use s3_bodies::Deletes;
 use s3_machine::{
-    Asked, Body, BucketAcl, Code, Content, Listed, ObjectDeletion, ObjectListing, ObjectName,
-    ObjectPut, ObjectRead, ObjectsOp, OnlyIf, Op, PartPut, Proper, UploadCompletion, UploadName,
-    UploadStart, UploadsOp,
+    Asked, Body, BucketAcl, BucketListing, Code, Content, Listed, ObjectDeletion, ObjectListing,
+    ObjectName, ObjectPut, ObjectRead, ObjectsOp, OnlyIf, Op, PartPut, Proper, UploadCompletion,
+    UploadName, UploadStart, UploadsOp,
 };
 use s3_names::{Acl, BucketName};
 use std::alloc::Global;
@@ -70,13 +72,22 @@ pub(crate) fn op_of(
     ensures keeps { KeepsFront message.entry.now message.exit.now }
 {
     match asking.named {
-        Named::Service => Ok(objects_op(ObjectsOp::ListBuckets)),
-        Named::Bucket(bucket) => op_of_bucket(alloc, asking, bucket.copy()?, taken, body),
-        Named::Object(name) => {
-            let name = copy_of_name(name)?;
-            op_of_key(alloc, asking, message, name, taken, body)
+        Named::Service => {
+            drop(taken);
+            drop(body);
+            Ok(objects_op(ObjectsOp::ListBuckets(every_bucket(alloc))))
         }
+        Named::Bucket(bucket) => op_of_named_bucket(alloc, asking, bucket, taken, body),
+        Named::Object(name) => op_of_named_key(alloc, asking, message, name, taken, body),
     }
+}
+
+/// All buckets in one page.
+#[tactic(auto, unfolding(s3_machine::specs::Limits::is_listing_text))]
+fn every_bucket(alloc: Global) -> Proper<BucketListing>
+    ensures { result ≡ all_buckets }
+{
+    Proper::of(BucketListing::all(alloc))
 }
 
 /// One on buckets and objects.
@@ -99,6 +110,52 @@ fn copy_of_name(name: &ObjectName) -> Result<ObjectName, Memory>
     let bucket = name.bucket.copy()?;
     let key = name.key.copy()?;
     Ok(ObjectName { bucket, key })
+}
+
+/// The operation of a row on the bucket of this name.
+fn op_of_named_bucket(
+    alloc: Global,
+    asking: &Asking<'_>,
+    bucket: &BucketName,
+    taken: Taken,
+    body: BodyGiven,
+) -> Result<Meant, Memory>
+    requires level { (shape_of asking.now.row).level ≡ level.Bucket }
+    requires texts { is_listing_of_bucket asking.now.row ≡ true
+        → has_long_text asking.now.target.now.query ≡ false }
+    requires keys { asking.now.row ≡ Row.DeleteObjects → IsProperKeys body.deletes.keys }
+    ensures { (message : Message) (target : Target) → target.bucket ≡ bucket.now
+        → target.query ≡ asking.now.target.now.query
+        → taken ≡ given asking.now.row message.headers → body.deletes ≡ given_deletes asking.now.row
+        message.body
+        → IfOk result (λ meant. meant ≡ op_of asking.now.row message target) }
+{
+    let bucket = bucket.copy()?;
+    op_of_bucket(alloc, asking, bucket, taken, body)
+}
+
+/// The operation of a row on the object of this name.
+fn op_of_named_key(
+    alloc: Global,
+    asking: &Asking<'_>,
+    message: &mut Message,
+    name: &ObjectName,
+    taken: Taken,
+    body: BodyGiven,
+) -> Result<Meant, Memory>
+    requires level { (shape_of asking.now.row).level ≡ level.Key }
+    requires left { IsLeft asking.now message.now [] }
+    requires bucket { name.now.bucket ≡ asking.now.target.now.bucket }
+    requires key { name.now.key ≡ asking.now.target.now.key }
+    requires taken { taken ≡ given asking.now.row message.now.headers }
+    requires list { body.list ≡ given_list asking.now.row message.now.body }
+    requires digest { IsDigestOf body.digest message.now.body }
+    ensures value { IfOk result (λ meant. meant ≡ op_of asking.now.row message.entry.now
+        asking.now.target.now) }
+    ensures keeps { KeepsFront message.entry.now message.exit.now }
+{
+    let name = copy_of_name(name)?;
+    op_of_key(alloc, asking, message, name, taken, body)
 }
 
 /// The operation of a row on a bucket.
@@ -242,7 +299,7 @@ fn put_object(
     requires digest { IsDigestOf digest message.now.body }
     requires sized { length message.now.body ≤ most_body_bytes }
     ensures value { result ≡ Meant.Op (ops.PutObject name.bucket name.key taken.acl
-        taken.described.content_type taken.described.meta message.entry.now.body Always) }
+        taken.described.content_type taken.described.meta message.entry.now.body Always None) }
     ensures keeps { KeepsFront message.entry.now message.exit.now }
 {
     let described = taken.described.into_value();
@@ -257,6 +314,7 @@ fn put_object(
             body,
         }),
         only_if: OnlyIf::Always,
+        checksum: None,
     }))
 }
 
@@ -270,7 +328,8 @@ fn upload_part(
     requires digest { IsDigestOf digest message.now.body }
     requires sized { length message.now.body ≤ most_body_bytes }
     ensures value { IfOk result (λ meant. meant ≡ Meant.Op (ops.UploadPart name.bucket
-        name.key (given_upload query.now) (given_part_number query.now) message.entry.now.body)) }
+        name.key (given_upload query.now) (given_part_number query.now) message.entry.now.body
+        None)) }
     ensures keeps { KeepsFront message.entry.now message.exit.now }
 {
     let id = given_upload(alloc, query)?;
@@ -281,6 +340,7 @@ fn upload_part(
         id,
         number: given_part_number(query),
         body: Proper::of(body),
+        checksum: None,
     })))
 }
 
@@ -303,16 +363,95 @@ fn op_of_key_alone(
     ensures { IfOk result (λ meant. meant ≡ op_of asking.now.row message.now
         asking.now.target.now) }
 {
+    if takes_given(asking.row) {
+        drop(list);
+        let query = asking.target.query.pairs();
+        op_of_key_given(alloc, asking.row, query, name, taken)
+    } else {
+        drop(taken);
+        op_of_key_asked(alloc, asking, message, name, list)
+    }
+}
+
+/// Whether the operation of a row takes what the headers give as one value.
+fn takes_given(row: Row) -> bool
+    ensures { result ≡ takes_given row }
+{
+    match row {
+        Row::PutObject | Row::CreateMultipartUpload | Row::CopyObject | Row::UploadPartCopy => true,
+        _ => false,
+    }
+}
+
+/// The same of a row that takes what the headers give.
+fn op_of_key_given(
+    alloc: Global,
+    row: Row,
+    query: &[Pair],
+    name: ObjectName,
+    taken: Taken,
+) -> Result<Meant, Memory>
+    requires row { takes_body row ≡ false }
+    requires given { takes_given row ≡ true }
+    requires place { is_copy row ≡ true → IsPlace taken.source.bucket taken.source.key }
+    ensures { (message : Message) (target : Target) → target.bucket ≡ name.bucket
+        → target.key ≡ name.key → target.query ≡ query.now
+        → taken ≡ given row message.headers
+        → IfOk result (λ meant. meant ≡ op_of row message target) }
+{
+    match row {
+        Row::CreateMultipartUpload => Ok(create_upload(name, taken)),
+        Row::CopyObject => Ok(Meant::Op(copy_asked(name, taken))),
+        Row::UploadPartCopy => copy_part(alloc, query, name, taken.source),
+        _ => unreachable!(),
+    }
+}
+
+fn copy_part(
+    alloc: Global,
+    query: &[Pair],
+    name: ObjectName,
+    source: Source,
+) -> Result<Meant, Memory>
+    requires { IsPlace source.bucket source.key }
+    ensures { IfOk result
+        (λ meant. meant ≡ Meant.Op (part_copy_asked name.bucket name.key query.now source)) }
+{
+    Ok(Meant::Op(part_copy_asked(alloc, name, query, source)?))
+}
+
+/// The same of a row that takes nothing of what the headers give but a range and conditions.
+fn op_of_key_asked(
+    alloc: Global,
+    asking: &Asking<'_>,
+    message: &Message,
+    name: ObjectName,
+    list: List<Listed>,
+) -> Result<Meant, Memory>
+    requires level { (shape_of asking.now.row).level ≡ level.Key }
+    requires row { takes_body asking.now.row ≡ false }
+    requires given { takes_given asking.now.row ≡ false }
+    requires left { IsLeft asking.now message.now [] }
+    requires bucket { name.bucket ≡ asking.now.target.now.bucket }
+    requires key { name.key ≡ asking.now.target.now.key }
+    requires list { list ≡ given_list asking.now.row message.now.body }
+    ensures { IfOk result (λ meant. meant ≡ op_of asking.now.row message.now
+        asking.now.target.now) }
+{
     let query = asking.target.query.pairs();
     match asking.row {
-        Row::CreateMultipartUpload => Ok(create_upload(name, taken)),
         Row::CompleteMultipartUpload => complete_upload(alloc, query, name, list),
-        Row::ListParts => Ok(Meant::Op(parts_asked(alloc, name, query)?)),
+        Row::ListParts => list_parts(alloc, query, name),
         Row::AbortMultipartUpload => abort_upload(alloc, query, name),
-        Row::CopyObject => Ok(Meant::Op(copy_asked(name, taken))),
-        Row::UploadPartCopy => { Ok(Meant::Op(part_copy_asked(alloc, name, query, taken.source)?)) }
         _ => plain_op_of_key(alloc, asking.row, message.headers.as_slice(), name),
     }
+}
+
+fn list_parts(alloc: Global, query: &[Pair], name: ObjectName) -> Result<Meant, Memory>
+    ensures { IfOk result
+        (λ meant. meant ≡ Meant.Op (parts_asked name.bucket name.key query.now)) }
+{
+    Ok(Meant::Op(parts_asked(alloc, name, query)?))
 }
 
 fn create_upload(name: ObjectName, taken: Taken) -> Meant
@@ -391,6 +530,8 @@ fn read_of(alloc: Global, headers: &[Pair], name: ObjectName) -> Result<ObjectRe
       key = name.key;
       range = given_range headers.now;
       conditions = given_conditions headers.now;
+      part = None;
+      shown = [];
     }) }
 {
     let range = given_range(alloc, headers)?;
@@ -400,5 +541,7 @@ fn read_of(alloc: Global, headers: &[Pair], name: ObjectName) -> Result<ObjectRe
         key: name.key,
         range,
         conditions,
+        part: None,
+        shown: List::new(alloc),
     })
 }

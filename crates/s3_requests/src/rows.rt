@@ -3,7 +3,7 @@ ghost use Rattle.std.specs.Prelude.{◌≡◌, true, false, ◌&&◌, find, byte
 ghost use Rattle.std.specs.List.{list_any};
 ghost use Rattle.std.specs.Option.{option_copied};
 ghost use Rattle.request_fields.specs.Query.{is_asked};
-ghost use Rattle.s3_requests.specs.Rows.{rows, plain, for_all, with_content, with_location, with_acl, shape_of, level_of, is_same_level, is_among, is_query_name_of_row, texts, agrees, is_same_set, fits, is_method};
+ghost use Rattle.s3_requests.specs.Rows.{rows, plain, for_all, for_readers, with_content, with_location, with_acl, shape_of, level_of, is_same_level, is_among, is_query_name_of_row, texts, agrees, is_same_set, fits, is_method};
 
 use gate_base::Pair;
 use request_fields::is_asked;
@@ -126,6 +126,8 @@ pub struct Shape {
     further: &'static [&'static [u8]],
     /// Whether anybody may ask for the operation.
     is_open: bool,
+    /// Whether one who may only read may.
+    is_read: bool,
     /// Whether it takes a content type and metadata, whatever else the headers say.
     has_content: bool,
     /// Whether its body names a location.
@@ -139,7 +141,7 @@ impl Model for Shape {
 
     ghost Value = { Seen };
 
-    ghost view = { λ s. record { method = s.method.now; level = s.level; selectors = texts s.selectors.now; further = texts s.further.now; is_open = s.is_open; has_content = s.has_content; has_location = s.has_location; needs_acl = s.needs_acl } };
+    ghost view = { λ s. record { method = s.method.now; level = s.level; selectors = texts s.selectors.now; further = texts s.further.now; is_open = s.is_open; is_read = s.is_read; has_content = s.has_content; has_location = s.has_location; needs_acl = s.needs_acl } };
 }
 
 /// What is asked of the row: the table.
@@ -147,15 +149,21 @@ pub fn shape_of(row: Row) -> Shape
     ensures { result ≡ shape_of row }
 {
     match row {
-        Row::ListBuckets => plain(b"GET", Level::Service, &[], &[]),
+        Row::ListBuckets => plain(b"GET", Level::Service, &[], &[]).for_readers(),
         Row::CreateBucket => plain(b"PUT", Level::Bucket, &[], &[]).with_location(),
         Row::PutBucketAcl => plain(b"PUT", Level::Bucket, &ACL, &[]).with_acl(),
         Row::DeleteBucket => plain(b"DELETE", Level::Bucket, &[], &[]),
-        Row::HeadBucket => plain(b"HEAD", Level::Bucket, &[], &[]).for_all(),
-        Row::GetBucketLocation => plain(b"GET", Level::Bucket, &LOCATION, &[]),
-        Row::GetBucketAcl => plain(b"GET", Level::Bucket, &ACL, &[]),
-        Row::ListObjects => plain(b"GET", Level::Bucket, &[], &OBJECTS_NAMES).for_all(),
-        Row::ListObjectsV2 => plain(b"GET", Level::Bucket, &LIST_TYPE, &OBJECTS_V2_NAMES).for_all(),
+        Row::HeadBucket => plain(b"HEAD", Level::Bucket, &[], &[])
+            .for_all()
+            .for_readers(),
+        Row::GetBucketLocation => plain(b"GET", Level::Bucket, &LOCATION, &[]).for_readers(),
+        Row::GetBucketAcl => plain(b"GET", Level::Bucket, &ACL, &[]).for_readers(),
+        Row::ListObjects => plain(b"GET", Level::Bucket, &[], &OBJECTS_NAMES)
+            .for_all()
+            .for_readers(),
+        Row::ListObjectsV2 => plain(b"GET", Level::Bucket, &LIST_TYPE, &OBJECTS_V2_NAMES)
+            .for_all()
+            .for_readers(),
         Row::ListMultipartUploads => { plain(b"GET", Level::Bucket, &UPLOADS, &UPLOADS_NAMES) }
         Row::DeleteObjects => plain(b"POST", Level::Bucket, &DELETE, &[]),
         _ => key_shape(row),
@@ -169,10 +177,10 @@ fn key_shape(row: Row) -> Shape
 {
     match row {
         Row::PutObject => plain(b"PUT", Level::Key, &[], &[]).with_content(),
-        Row::GetObject => plain(b"GET", Level::Key, &[], &[]).for_all(),
-        Row::HeadObject => plain(b"HEAD", Level::Key, &[], &[]).for_all(),
+        Row::GetObject => plain(b"GET", Level::Key, &[], &[]).for_all().for_readers(),
+        Row::HeadObject => plain(b"HEAD", Level::Key, &[], &[]).for_all().for_readers(),
         Row::DeleteObject => plain(b"DELETE", Level::Key, &[], &[]),
-        Row::GetObjectAcl => plain(b"GET", Level::Key, &ACL, &[]),
+        Row::GetObjectAcl => plain(b"GET", Level::Key, &ACL, &[]).for_readers(),
         Row::CreateMultipartUpload => plain(b"POST", Level::Key, &UPLOADS, &[]).with_content(),
         Row::UploadPart => plain(b"PUT", Level::Key, &PART, &[]),
         Row::ListParts => plain(b"GET", Level::Key, &UPLOAD_ID, &PARTS_NAMES),
@@ -199,6 +207,7 @@ fn plain(
         selectors,
         further,
         is_open: false,
+        is_read: false,
         has_content: false,
         has_location: false,
         needs_acl: false,
@@ -211,6 +220,15 @@ impl Shape {
     {
         Shape {
             is_open: true,
+            ..self
+        }
+    }
+
+    fn for_readers(self) -> Shape
+        ensures { result ≡ for_readers self }
+    {
+        Shape {
+            is_read: true,
             ..self
         }
     }
@@ -246,6 +264,12 @@ impl Shape {
         ensures { result ≡ self.now.is_open }
     {
         self.is_open
+    }
+
+    pub fn is_read(&self) -> bool
+        ensures { result ≡ self.now.is_read }
+    {
+        self.is_read
     }
 
     pub fn has_content(&self) -> bool

@@ -6,6 +6,7 @@ use Rattle.gate_base.specs.Line.{LineModel, LineServes}
 use Rattle.gate_base.specs.ListTold.{source_of}
 use Rattle.gate_base.specs.Told.{SourceModel}
 use Rattle.gate_base.specs.declared.faults.Memory.{Memory}
+use Rattle.s3_machine.specs.Limits.{strict_settings}
 use Rattle.sigv4.specs.Keys.{keys_of}
 use Rattle.sigv4.specs.declared.keys.AccessKey.{AccessKey}
 use Rattle.swift_calls.specs.History.{History}
@@ -29,7 +30,7 @@ trial_keys = keys_of (codes "TRIAL trial\n")
 -- its settings and its keys
 abbrev pub trial_service : Service
 trial_service =
-    record { settings = record { region = codes "us-east-1"; least_part = 1; largest_body = 16777216; extended = false }; keys = trial_keys }
+    record { settings = strict_settings (codes "us-east-1") 1 16777216; keys = trial_keys }
 
 -- the moments from the beginning of 24 May 2013 on, a second apart
 unfoldable pub first_moments : ℕ → List ℕ

@@ -24,12 +24,7 @@ pub(crate) fn trial_service(alloc: Global) -> Result<Service, Memory>
 {
     let keys = trial_keys(alloc)?;
     Ok(Service {
-        settings: Settings {
-            region: Bytes::from_slice(alloc, b"us-east-1")?,
-            least_part: 1,
-            largest_body: 16_777_216,
-            extended: false,
-        },
+        settings: Settings::strict(Bytes::from_slice(alloc, b"us-east-1")?, 1, 16_777_216),
         keys,
     })
 }

@@ -19,7 +19,7 @@ use gate_base::{Bytes, List, Memory};
 use s3_machine::{Described, Label, Proper, UploadStart, body_etag};
 use s3_names::{BucketName, Key, id_digits};
 use std::alloc::Global;
-use swift_calls::{FilePut, Swift, SwiftReply, SwiftRequest};
+use swift_calls::{FilePut, Swift, SwiftReply, SwiftRequest, drop_reply};
 use upload_records::{
     law_upload_abandoned, law_upload_dropped, law_upload_opened, uploads_container,
 };
@@ -74,10 +74,10 @@ fn record_in_fetched_file(alloc: Global, text: &[u8]) -> Result<Option<Record>, 
 }
 
 /// Opens an upload under an id under which nothing stands, by PUT of its record (Object Storage API v1, "Create or replace
-/// object"): the one call that commits. At most one call. It is started at the moment of the label. After Ok the S3 state has the upload, without parts, and over every observable store, consistent or not, its record's file
-/// stands. After Failed, which comes only where the store's count of faults
-/// rose, and after Memory the state is the old one or that. Inconsistent never comes over an observable consistent account of
-/// which this is so.
+/// object"): the one call that commits. At most one call. It is started at the moment of the label. After Ok the S3 state has the
+/// upload, without parts, and over every observable store, consistent or not, its record's file stands. After Failed, which comes
+/// only where the store's count of faults rose, and after Memory the state is the old one or that. Inconsistent never comes over an
+/// observable consistent account of which this is so.
 pub fn put_record<W: Swift>(
     state: &mut Settled<'_, W>,
     start: UploadStart,
@@ -100,7 +100,9 @@ pub fn put_record<W: Swift>(
     let etag = body_etag(text.as_slice());
     let request = request_for_put_record(alloc, &start.bucket, id, text)?;
     let reply = state.call(request)?;
-    interpret_put_with_etag(&reply, &etag)
+    let end = interpret_put_with_etag(&reply, &etag);
+    drop_reply(reply);
+    end
 }
 
 /// The text of the record of an upload that is open.

@@ -366,7 +366,7 @@ answered_by {most = most} {a = a} {b = b} {op = op} {label = label} {end = end} 
 
 -- of an operation on buckets and objects nothing is asked of the account beside the state
 pub none_beside : (op : ObjectsOp) → beside_of (OnObjects op) ≡ nothing_beside
-none_beside op.ListBuckets = refl
+none_beside (op.ListBuckets asked) = refl
 none_beside (op.CreateBucket made) = refl
 none_beside (op.DeleteBucket bucket) = refl
 none_beside (op.HeadBucket bucket) = refl
@@ -379,3 +379,5 @@ none_beside (op.HeadObject read) = refl
 none_beside (op.DeleteObject name) = refl
 none_beside (op.DeleteObjects many) = refl
 none_beside (op.GetObjectAcl name) = refl
+none_beside (op.PutObjectAcl set) = refl
+none_beside (op.GetSetting read) = refl

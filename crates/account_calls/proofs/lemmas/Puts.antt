@@ -137,18 +137,19 @@ module _ {P Q : Type 0} (gives : P → Q) where
   if_done replies.Done has = gives has
   if_done replies.Gone has = gives has
   if_done (replies.NotModified head) has = gives has
-  if_done (OfObjects (objects_reply.Buckets items)) has = gives has
+  if_done (OfObjects (objects_reply.Buckets page)) has = gives has
   if_done (OfObjects (objects_reply.Made bucket)) has = gives has
   if_done (OfObjects (objects_reply.Location region)) has = gives has
   if_done (OfObjects (objects_reply.AclOf acl)) has = gives has
   if_done (OfObjects (objects_reply.Objects page)) has = gives has
   if_done (OfUploads (uploads_reply.Uploads page)) has = gives has
-  if_done (replies.Stored etag) has = gives has
+  if_done (replies.Stored stored) has = gives has
   if_done (replies.Object object) has = gives has
   if_done (OfUploads (uploads_reply.Started started)) has = gives has
   if_done (OfUploads (uploads_reply.Parts page)) has = gives has
   if_done (OfUploads (uploads_reply.Completed completed)) has = gives has
   if_done (OfObjects (objects_reply.Deleted deleted)) has = gives has
+  if_done (OfObjects (objects_reply.Setting page)) has = gives has
   if_done (replies.Copied copied) has = gives has
 
 -- what holds holds where the operation was done
@@ -161,18 +162,19 @@ done_so {P = P} reply has = if_done {P = Unit {0}} (λ any. has) reply (any_done
     any_done replies.Done = tt
     any_done replies.Gone = tt
     any_done (replies.NotModified head) = tt
-    any_done (OfObjects (objects_reply.Buckets items)) = tt
+    any_done (OfObjects (objects_reply.Buckets page)) = tt
     any_done (OfObjects (objects_reply.Made bucket)) = tt
     any_done (OfObjects (objects_reply.Location region)) = tt
     any_done (OfObjects (objects_reply.AclOf acl)) = tt
     any_done (OfObjects (objects_reply.Objects page)) = tt
     any_done (OfUploads (uploads_reply.Uploads page)) = tt
-    any_done (replies.Stored etag) = tt
+    any_done (replies.Stored stored) = tt
     any_done (replies.Object object) = tt
     any_done (OfUploads (uploads_reply.Started started)) = tt
     any_done (OfUploads (uploads_reply.Parts page)) = tt
     any_done (OfUploads (uploads_reply.Completed completed)) = tt
     any_done (OfObjects (objects_reply.Deleted deleted)) = tt
+    any_done (OfObjects (objects_reply.Setting page)) = tt
     any_done (replies.Copied copied) = tt
 
 -- less is ensured

@@ -3,13 +3,18 @@ ghost use Rattle.http_wire.specs.Print.{IsReplyStatus};
 
 use case_text::{Fault, Told, copy_of_bytes, tell_owned_value};
 use gate_base::{Bytes, List, Page, Pair};
-use http_wire::{print_memory, print_page};
+use http_wire::{print_memory, print_page, print_slow};
 use std::alloc::Global;
 
 /// Tells the reply where memory runs out.
 pub(crate) fn tell_memory_reply(alloc: Global, method: &str, told: &mut Told) {
     let reply = print_memory(method == "HEAD");
     tell_owned_value(Bytes::from_slice(alloc, reply), told);
+}
+
+/// Tells the reply where a body comes too slowly.
+pub(crate) fn tell_slow_reply(alloc: Global, told: &mut Told) {
+    tell_owned_value(Bytes::from_slice(alloc, print_slow()), told);
 }
 
 /// Tells a page of one header.

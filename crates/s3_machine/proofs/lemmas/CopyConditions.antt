@@ -48,7 +48,7 @@ module _ (settings : Settings) (old : State) (bucket key from_bucket from_key : 
         → S3Step settings old (CopyObject bucket key acl from_bucket from_key replaced conditions only_if) label reply new
     copy_as_without s =
         let same = each_bucket (get old bucket) old _ _ same_copies in
-        record { id = s.id; free = tt; replies = s.replies ∙ sym (ap (λ (o : Outcome). o.reply) same); goes = s.goes ∙ sym (ap (λ (o : Outcome). o.state) same) }
+        record { choice = s.choice; free = tt; replies = s.replies ∙ sym (ap (λ (o : Outcome). o.reply) same); goes = s.goes ∙ sym (ap (λ (o : Outcome). o.state) same) }
 
   module _ (id : List ℕ) (number : ℕ) (range : Option (ℕ × ℕ)) where
     same_parts : (b : Bucket) → copies_part settings old bucket key id number from_bucket from_key range conditions label.moment b ≡ copies_part settings old bucket key id number from_bucket from_key range no_conditions label.moment b
@@ -59,4 +59,4 @@ module _ (settings : Settings) (old : State) (bucket key from_bucket from_key : 
         → S3Step settings old (CopyPart bucket key id number from_bucket from_key range conditions) label reply new
     part_copy_as_without s =
         let same = each_bucket (get old bucket) old _ _ same_parts in
-        record { id = s.id; free = tt; replies = s.replies ∙ sym (ap (λ (o : Outcome). o.reply) same); goes = s.goes ∙ sym (ap (λ (o : Outcome). o.state) same) }
+        record { choice = s.choice; free = tt; replies = s.replies ∙ sym (ap (λ (o : Outcome). o.reply) same); goes = s.goes ∙ sym (ap (λ (o : Outcome). o.state) same) }

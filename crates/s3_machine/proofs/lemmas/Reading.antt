@@ -1,5 +1,6 @@
 -- The bytes that are asked for are bytes of the object: all of them, or those of a range, of which there is one.
 use Rattle.std.proofs.Common.{◌≡◌, ◌≤◌, ◌<◌, ◌+◌, ◌-◌, ℕ, Bool, true, false, cond, Option, Some, None, refl, arith, min, nat_lt}
+use Rattle.std.specs.Prelude.{nat_eq}
 use Rattle.s3_machine.specs.declared.operation.ObjectHead.{ObjectHead}
 use Rattle.s3_machine.specs.declared.reading.Conditions.{Conditions}
 use Rattle.s3_machine.specs.declared.reading.Judged.{Judged}
@@ -8,6 +9,7 @@ use Rattle.s3_machine.specs.declared.reading.Range.{Range}
 use Rattle.s3_machine.specs.declared.reading.Range.TheVariants.{FromTo, From, Last}
 use Rattle.s3_machine.specs.declared.reading.Span.{Span}
 use Rattle.s3_machine.specs.Conditions.{fails, is_known}
+use Rattle.s3_machine.specs.Parts.{judged_by}
 use Rattle.s3_machine.specs.Ranges.{span_of}
 use Rattle.s3_machine.specs.Reading.{all_of, judged, ranged, ranged_by}
 
@@ -46,3 +48,11 @@ pub judged_fits : (range : Option Range) (conditions : Conditions) (head : Objec
 judged_fits range conditions head =
     cond_fits (fails conditions head.etag head.modified) head.size PreconditionFailed _ tt
     (cond_fits (is_known conditions head.etag head.modified) head.size NotModified _ tt (ranged_fits range head.size))
+
+-- of a part too, whatever bytes are said to be its own
+pub judged_by_fits : (part : Option ℕ) (span : Option Span) (range : Option Range) (conditions : Conditions) (head : ObjectHead) → Fits head.size (judged_by part span range conditions head)
+judged_by_fits None span range conditions head = judged_fits range conditions head
+judged_by_fits (Some n) None range conditions head = judged_fits (Some (From head.size)) conditions head
+judged_by_fits (Some n) (Some s) range conditions head =
+    cond_fits (nat_eq s.length 0) head.size (judged None conditions head) (judged (Some (FromTo s.from (s.from + s.length - 1))) conditions head)
+    (judged_fits None conditions head) (judged_fits (Some (FromTo s.from (s.from + s.length - 1))) conditions head)

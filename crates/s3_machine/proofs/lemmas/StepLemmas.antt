@@ -1,6 +1,6 @@
 -- Laws of the step, for the crates above: what each operation does by what is found in the state and in the bucket, and
 -- the replies that the machine never gives.
-use Rattle.std.specs.Prelude.{◌≡◌, ◌≢◌, ◌⊎◌, ℕ, Bool, true, false, not, if◌then◌else◌, bytes_eq, nat_lt, List, [], map, length, Option, Some, None, is_some}
+use Rattle.std.specs.Prelude.{◌≡◌, ◌≢◌, ◌⊎◌, ℕ, Bool, true, false, not, if◌then◌else◌, bytes_eq, nat_lt, List, [], map, length, Option, Some, None, is_some, IfSome}
 use Rattle.std.proofs.Common.{refl, sym, ap, subst, ◌∙◌, inl, inr, true≢false}
 use Rattle.std.specs.FinMap.{get, insert, remove}
 use Rattle.gate_base.specs.Maps.{adjust}
@@ -9,6 +9,7 @@ use Rattle.s3_names.specs.declared.acl.Acl.{Acl}
 use Rattle.s3_names.specs.Id.{id_digits}
 use Rattle.s3_machine.specs.declared.code.Code.{Code}
 use Rattle.s3_machine.specs.declared.code.Code.TheVariants.{
+  AccessControlListNotSupported,
   AccessDenied,
   BucketAlreadyOwnedByYou,
   BucketNotEmpty,
@@ -26,6 +27,7 @@ use Rattle.s3_machine.specs.declared.code.Code.TheVariants.{
   PreconditionFailed as fails_precondition,
   ServiceUnavailable,
 }
+use Rattle.s3_machine.specs.declared.buckets.BucketListing.{BucketListing}
 use Rattle.s3_machine.specs.declared.items.Asked.{Asked}
 use Rattle.s3_machine.specs.declared.items.BucketItem.{BucketItem}
 use Rattle.s3_machine.specs.declared.items.ItemHead.{ItemHead}
@@ -54,7 +56,8 @@ use Rattle.s3_machine.specs.Ops.{
   HeadObject,
   DeleteObject,
   GetObjectAcl,
-  ListUploads,
+  PutObjectAcl,
+  GetSetting,
   CreateUpload,
   UploadPart,
   ListParts,
@@ -66,22 +69,27 @@ use Rattle.s3_machine.specs.Ops.{
 }
 use Rattle.s3_machine.specs.declared.operation.Listed.{Listed}
 use Rattle.s3_machine.specs.declared.operation.ObjectHead.{ObjectHead}
+use Rattle.s3_machine.specs.declared.operation.ObjectRead.{ObjectRead}
 use Rattle.s3_machine.specs.declared.operation.Described.{Described}
 use Rattle.s3_machine.specs.declared.operation.Reply.{Reply}
-use Rattle.s3_machine.specs.declared.operation.Reply.TheVariants.{Refused, Done, Memory, Stored, Gone}
-use Rattle.s3_machine.specs.Replies.{Made, Buckets, Location, AclOf, Started, Completed, Deleted, Copied}
+use Rattle.s3_machine.specs.declared.operation.Reply.TheVariants.{Refused, Done, Memory, Gone}
+use Rattle.s3_machine.specs.Replies.{Made, Location, AclOf, Stored, Started, Completed, Deleted, Copied}
 use Rattle.s3_machine.specs.declared.reading.Conditions.{Conditions}
 use Rattle.s3_machine.specs.declared.reading.Judged.{Judged}
 use Rattle.s3_machine.specs.declared.reading.Judged.TheVariants.{PreconditionFailed, NotModified, InvalidRange, Bytes}
 use Rattle.s3_machine.specs.declared.reading.Range.{Range}
 use Rattle.s3_machine.specs.declared.reading.Span.{Span}
+use Rattle.s3_machine.specs.declared.unset.Unset.{Unset}
+use Rattle.s3_machine.specs.declared.unset.Unset.TheVariants as unset_as
+use Rattle.s3_machine.specs.Buckets.{bucket_page}
 use Rattle.s3_machine.specs.Copies.{copied, is_onto_itself, has_last, copied_span, may_be_copied}
 use Rattle.s3_machine.specs.ETag.{body_etag}
 use Rattle.s3_machine.specs.Limits.{body_limit}
 use Rattle.s3_machine.specs.OnlyIf.{refusal}
 use Rattle.s3_machine.specs.declared.only_if.OnlyIf.{OnlyIf}
 use Rattle.s3_machine.specs.declared.only_if.OnlyIf.TheVariants.{Always, Missing, Present, Holds}
-use Rattle.s3_machine.specs.Reading.{judged, taken}
+use Rattle.s3_machine.specs.Parts.{IsPartOf, choice_of_id, choice_of_part}
+use Rattle.s3_machine.specs.Reading.{taken}
 use Rattle.s3_machine.specs.State.{Object, Part, Upload, Bucket, State}
 use Rattle.s3_machine.specs.Finish.{finished}
 use Rattle.s3_machine.specs.Uploads.{
@@ -104,6 +112,8 @@ use Rattle.s3_machine.specs.Step.{
   S3Step,
   step,
   IsFree,
+  IsFreeRead,
+  judged_read,
   creates,
   gives,
   refuses,
@@ -132,6 +142,7 @@ use Rattle.s3_machine.specs.Step.{
   drop_object,
   drop_objects,
   bucket_items,
+  buckets_reply,
   is_bare,
   with_acl,
   drops,
@@ -140,6 +151,9 @@ use Rattle.s3_machine.specs.Step.{
   shows_acl,
   sets_acl,
   shows_object_acl,
+  sets_object_acl,
+  unset_reply,
+  shows_setting,
   IsNewId,
   in_upload_by,
   in_upload,
@@ -163,9 +177,20 @@ use Rattle.s3_machine.specs.Step.{
 }
 
 -- a step by what it comes to
-pub steps : {settings : Settings} {old : State} {op : Op} {label : Label} (reply : Reply) (new : State) (id : ℕ) → IsFree old op id
-    → step settings old op label id ≡ gives reply new → S3Step settings old op label reply new
-steps reply new id free e = record { id = id; free = free; replies = sym (ap (λ (o : Outcome). o.reply) e); goes = sym (ap (λ (o : Outcome). o.state) e) }
+pub steps : {settings : Settings} {old : State} {op : Op} {label : Label} (reply : Reply) (new : State) (id : ℕ) → IsFree old op (choice_of_id id)
+    → step settings old op label (choice_of_id id) ≡ gives reply new → S3Step settings old op label reply new
+steps reply new id free e = record { choice = choice_of_id id; free = free; replies = sym (ap (λ (o : Outcome). o.reply) e); goes = sym (ap (λ (o : Outcome). o.state) e) }
+
+-- the step of a read, by the bytes of the part that it asks for
+reads_steps : {settings : Settings} {old : State} {op : Op} {label : Label} (reply : Reply) (new : State) (chosen : Option Span) → IsFree old op (choice_of_part chosen)
+    → step settings old op label (choice_of_part chosen) ≡ gives reply new → S3Step settings old op label reply new
+reads_steps reply new chosen free e =
+    record { choice = choice_of_part chosen; free = free; replies = sym (ap (λ (o : Outcome). o.reply) e); goes = sym (ap (λ (o : Outcome). o.state) e) }
+
+-- where no part is asked for, none is chosen
+pub free_without_part : (old : State) (read : ObjectRead) → read.part ≡ None → IsFreeRead old read None
+free_without_part old read none =
+    subst (λ (part : Option ℕ). IfSome part (λ n. (b : Bucket) (o : Object) → get old read.bucket ≡ Some b → get b.objects read.key ≡ Some o → IsPartOf o n None)) (sym none) tt
 
 -- ---- CreateBucket
 
@@ -223,8 +248,9 @@ in_found old bucket b found f = ap (λ v. in_bucket_by v old f) found
 
 -- ---- the operations on buckets
 
-pub step_listed : (settings : Settings) (old : State) (label : Label) → S3Step settings old ListBuckets label (Buckets (bucket_items old)) old
-step_listed settings old label = steps _ _ 0 tt refl
+pub step_listed : (settings : Settings) (old : State) (asked : BucketListing) (label : Label)
+    → S3Step settings old (ListBuckets asked) label (buckets_reply asked (bucket_page asked (bucket_items old))) old
+step_listed settings old asked label = steps _ _ 0 tt refl
 
 module _ (settings : Settings) (old : State) (bucket : List ℕ) (label : Label) where
   -- the bucket is missing
@@ -249,6 +275,12 @@ module _ (settings : Settings) (old : State) (bucket : List ℕ) (label : Label)
 
     pub object_acl_without_bucket : (key : List ℕ) → S3Step settings old (GetObjectAcl bucket key) label (Refused NoSuchBucket) old
     object_acl_without_bucket key = steps _ _ 0 tt (in_missing old bucket none (shows_object_acl old key))
+
+    pub set_object_acl_without_bucket : (key : List ℕ) (acl : Acl) → S3Step settings old (PutObjectAcl bucket key acl) label (Refused NoSuchBucket) old
+    set_object_acl_without_bucket key acl = steps _ _ 0 tt (in_missing old bucket none (sets_object_acl old key acl))
+
+    pub setting_without_bucket : (key : Option (List ℕ)) (unset : Unset) → S3Step settings old (GetSetting bucket key unset) label (Refused NoSuchBucket) old
+    setting_without_bucket key unset = steps _ _ 0 tt (in_missing old bucket none (shows_setting old key unset))
 
   -- it is there
   module _ (b : Bucket) (found : get old bucket ≡ Some b) where
@@ -288,7 +320,41 @@ module _ (settings : Settings) (old : State) (bucket : List ℕ) (label : Label)
     step_object_acl key o there = steps _ _ 0 tt (in_found old bucket b found (shows_object_acl old key)
         ∙ ap (λ o. in_object_by o old (λ x. gives (AclOf b.acl) old)) there)
 
+    -- an object is given a list
+    module _ (key : List ℕ) (acl : Acl) where
+      abbrev set_by : Object → Outcome
+      set_by o = unless (is_other_acl (Some acl) b.acl) AccessControlListNotSupported old (gives Done old)
+
+      pub set_object_acl_without_key : get b.objects key ≡ None → S3Step settings old (PutObjectAcl bucket key acl) label (Refused NoSuchKey) old
+      set_object_acl_without_key none = steps _ _ 0 tt (in_found old bucket b found (sets_object_acl old key acl) ∙ ap (λ o. in_object_by o old set_by) none)
+
+      module _ (o : Object) (there : get b.objects key ≡ Some o) where
+        pub set_object_acl_other : is_other_acl (Some acl) b.acl ≡ true → S3Step settings old (PutObjectAcl bucket key acl) label (Refused AccessControlListNotSupported) old
+        set_object_acl_other e =
+            steps _ _ 0 tt (in_found old bucket b found (sets_object_acl old key acl) ∙ ap (λ o. in_object_by o old set_by) there ∙ unless_true _ _ _ _ e)
+
+        pub step_object_acl_set : is_other_acl (Some acl) b.acl ≡ false → S3Step settings old (PutObjectAcl bucket key acl) label Done old
+        step_object_acl_set e =
+            steps _ _ 0 tt (in_found old bucket b found (sets_object_acl old key acl) ∙ ap (λ o. in_object_by o old set_by) there ∙ unless_false _ _ _ _ e)
+
+    -- a setting of the bucket, or of an object in it
+    pub step_setting : (unset : Unset) → S3Step settings old (GetSetting bucket None unset) label (unset_reply unset) old
+    step_setting unset = steps _ _ 0 tt (in_found old bucket b found (shows_setting old None unset))
+
+    module _ (key : List ℕ) (unset : Unset) where
+      pub setting_without_key : get b.objects key ≡ None → S3Step settings old (GetSetting bucket (Some key) unset) label (Refused NoSuchKey) old
+      setting_without_key none = steps _ _ 0 tt (in_found old bucket b found (shows_setting old (Some key) unset)
+          ∙ ap (λ o. in_object_by o old (λ x. gives (unset_reply unset) old)) none)
+
+      pub step_object_setting : (o : Object) → get b.objects key ≡ Some o → S3Step settings old (GetSetting bucket (Some key) unset) label (unset_reply unset) old
+      step_object_setting o there = steps _ _ 0 tt (in_found old bucket b found (shows_setting old (Some key) unset)
+          ∙ ap (λ o. in_object_by o old (λ x. gives (unset_reply unset) old)) there)
+
 -- ---- the operations on objects
+
+-- a read by what it asks for
+abbrev pub asked_read : List ℕ → List ℕ → Option Range → Conditions → Option ℕ → List Pair → ObjectRead
+asked_read bucket key range conditions part shown = record { bucket = bucket; key = key; range = range; conditions = conditions; part = part; shown = shown }
 
 module _ (old : State) (label : Label) (key : List ℕ) (f : Object → Outcome) (b : Bucket) where
   readable_denied : may_read label.caller b.acl ≡ false → in_readable old label.caller key f b ≡ refuses AccessDenied old
@@ -306,15 +372,17 @@ module _ (settings : Settings) (old : State) (bucket key : List ℕ) (label : La
     missing : (f : Bucket → Outcome) → in_bucket_by (get old bucket) old f ≡ refuses NoSuchBucket old
     missing = in_missing old bucket none
 
-    pub put_without_bucket : (acl : Option Acl) (content_type : List ℕ) (meta : List Pair) (body : List ℕ) (only_if : OnlyIf)
-        → S3Step settings old (PutObject bucket key acl content_type meta body only_if) label (Refused NoSuchBucket) old
-    put_without_bucket acl content_type meta body only_if = steps _ _ 0 tt (missing (puts old bucket key acl (new_object label.moment content_type meta body) only_if))
+    pub put_without_bucket : (acl : Option Acl) (content_type : List ℕ) (meta : List Pair) (body : List ℕ) (only_if : OnlyIf) (checksum : Option Pair)
+        → S3Step settings old (PutObject bucket key acl content_type meta body only_if checksum) label (Refused NoSuchBucket) old
+    put_without_bucket acl content_type meta body only_if checksum = steps _ _ 0 tt (missing (puts old bucket key acl (new_object label.moment content_type meta body) only_if checksum))
 
-    pub get_without_bucket : (range : Option Range) (conditions : Conditions) → S3Step settings old (GetObject bucket key range conditions) label (Refused NoSuchBucket) old
-    get_without_bucket range conditions = steps _ _ 0 tt (missing (in_readable old label.caller key (reads old (got range conditions))))
+    module _ (range : Option Range) (conditions : Conditions) (part : Option ℕ) (shown : List Pair) (chosen : Option Span)
+        (free : IsFreeRead old (asked_read bucket key range conditions part shown) chosen) where
+      pub get_without_bucket : S3Step settings old (GetObject bucket key range conditions part shown) label (Refused NoSuchBucket) old
+      get_without_bucket = reads_steps _ _ chosen free (missing (in_readable old label.caller key (reads old (got (asked_read bucket key range conditions part shown) chosen))))
 
-    pub head_without_bucket : (range : Option Range) (conditions : Conditions) → S3Step settings old (HeadObject bucket key range conditions) label (Refused NoSuchBucket) old
-    head_without_bucket range conditions = steps _ _ 0 tt (missing (in_readable old label.caller key (reads old (headed range conditions))))
+      pub head_without_bucket : S3Step settings old (HeadObject bucket key range conditions part shown) label (Refused NoSuchBucket) old
+      head_without_bucket = reads_steps _ _ chosen free (missing (in_readable old label.caller key (reads old (headed (asked_read bucket key range conditions part shown) chosen))))
 
     pub delete_without_bucket : (only_if : OnlyIf) → S3Step settings old (DeleteObject bucket key only_if) label (Refused NoSuchBucket) old
     delete_without_bucket only_if = steps _ _ 0 tt (missing (deletes old bucket key only_if))
@@ -324,50 +392,50 @@ module _ (settings : Settings) (old : State) (bucket key : List ℕ) (label : La
     there : (f : Bucket → Outcome) → in_bucket_by (get old bucket) old f ≡ f b
     there = in_found old bucket b found
 
-    pub put_with_another_acl : (acl : Option Acl) (content_type : List ℕ) (meta : List Pair) (body : List ℕ) (only_if : OnlyIf) → is_other_acl acl b.acl ≡ true
-        → S3Step settings old (PutObject bucket key acl content_type meta body only_if) label (Refused NotImplemented) old
-    put_with_another_acl acl content_type meta body only_if e = steps _ _ 0 tt (there (puts old bucket key acl (new_object label.moment content_type meta body) only_if)
+    pub put_with_another_acl : (acl : Option Acl) (content_type : List ℕ) (meta : List Pair) (body : List ℕ) (only_if : OnlyIf) (checksum : Option Pair) → is_other_acl acl b.acl ≡ true
+        → S3Step settings old (PutObject bucket key acl content_type meta body only_if checksum) label (Refused NotImplemented) old
+    put_with_another_acl acl content_type meta body only_if checksum e = steps _ _ 0 tt (there (puts old bucket key acl (new_object label.moment content_type meta body) only_if checksum)
         ∙ unless_true _ _ _ _ e)
 
-    pub put_held : (acl : Option Acl) (content_type : List ℕ) (meta : List Pair) (body : List ℕ) (only_if : OnlyIf) (code : Code) → is_other_acl acl b.acl ≡ false → refusal_in only_if key b ≡ Some code
-        → S3Step settings old (PutObject bucket key acl content_type meta body only_if) label (Refused code) old
-    put_held acl content_type meta body only_if code e held = steps _ _ 0 tt (there (puts old bucket key acl (new_object label.moment content_type meta body) only_if)
+    pub put_held : (acl : Option Acl) (content_type : List ℕ) (meta : List Pair) (body : List ℕ) (only_if : OnlyIf) (checksum : Option Pair) (code : Code) → is_other_acl acl b.acl ≡ false → refusal_in only_if key b ≡ Some code
+        → S3Step settings old (PutObject bucket key acl content_type meta body only_if checksum) label (Refused code) old
+    put_held acl content_type meta body only_if checksum code e held = steps _ _ 0 tt (there (puts old bucket key acl (new_object label.moment content_type meta body) only_if checksum)
         ∙ unless_false _ _ _ _ e ∙ held_back _ _ _ _ held)
 
-    pub step_stored : (acl : Option Acl) (content_type : List ℕ) (meta : List Pair) (body : List ℕ) (only_if : OnlyIf) → is_other_acl acl b.acl ≡ false → refusal_in only_if key b ≡ None
-        → S3Step settings old (PutObject bucket key acl content_type meta body only_if) label (Stored (body_etag body)) (adjust bucket (put_object key (new_object label.moment content_type meta body)) old)
-    step_stored acl content_type meta body only_if e met = steps _ _ 0 tt (there (puts old bucket key acl (new_object label.moment content_type meta body) only_if)
+    pub step_stored : (acl : Option Acl) (content_type : List ℕ) (meta : List Pair) (body : List ℕ) (only_if : OnlyIf) (checksum : Option Pair) → is_other_acl acl b.acl ≡ false → refusal_in only_if key b ≡ None
+        → S3Step settings old (PutObject bucket key acl content_type meta body only_if checksum) label (Stored (body_etag body) checksum) (adjust bucket (put_object key (new_object label.moment content_type meta body)) old)
+    step_stored acl content_type meta body only_if checksum e met = steps _ _ 0 tt (there (puts old bucket key acl (new_object label.moment content_type meta body) only_if checksum)
         ∙ unless_false _ _ _ _ e ∙ not_held _ _ _ met)
 
-    pub get_denied : (range : Option Range) (conditions : Conditions) → may_read label.caller b.acl ≡ false
-        → S3Step settings old (GetObject bucket key range conditions) label (Refused AccessDenied) old
-    get_denied range conditions e = steps _ _ 0 tt (there (in_readable old label.caller key (reads old (got range conditions)))
-        ∙ readable_denied old label key (reads old (got range conditions)) b e)
+    module _ (range : Option Range) (conditions : Conditions) (part : Option ℕ) (shown : List Pair) (chosen : Option Span)
+        (free : IsFreeRead old (asked_read bucket key range conditions part shown) chosen) where
+      abbrev answers_get : Object → Outcome
+      answers_get = reads old (got (asked_read bucket key range conditions part shown) chosen)
 
-    pub head_denied : (range : Option Range) (conditions : Conditions) → may_read label.caller b.acl ≡ false
-        → S3Step settings old (HeadObject bucket key range conditions) label (Refused AccessDenied) old
-    head_denied range conditions e = steps _ _ 0 tt (there (in_readable old label.caller key (reads old (headed range conditions)))
-        ∙ readable_denied old label key (reads old (headed range conditions)) b e)
+      abbrev answers_head : Object → Outcome
+      answers_head = reads old (headed (asked_read bucket key range conditions part shown) chosen)
 
-    pub get_without_key : (range : Option Range) (conditions : Conditions) → may_read label.caller b.acl ≡ true → get b.objects key ≡ None
-        → S3Step settings old (GetObject bucket key range conditions) label (Refused NoSuchKey) old
-    get_without_key range conditions e none = steps _ _ 0 tt (there (in_readable old label.caller key (reads old (got range conditions)))
-        ∙ readable_none old label key (reads old (got range conditions)) b e none)
+      pub get_denied : may_read label.caller b.acl ≡ false → S3Step settings old (GetObject bucket key range conditions part shown) label (Refused AccessDenied) old
+      get_denied e = reads_steps _ _ chosen free (there (in_readable old label.caller key answers_get) ∙ readable_denied old label key answers_get b e)
 
-    pub head_without_key : (range : Option Range) (conditions : Conditions) → may_read label.caller b.acl ≡ true → get b.objects key ≡ None
-        → S3Step settings old (HeadObject bucket key range conditions) label (Refused NoSuchKey) old
-    head_without_key range conditions e none = steps _ _ 0 tt (there (in_readable old label.caller key (reads old (headed range conditions)))
-        ∙ readable_none old label key (reads old (headed range conditions)) b e none)
+      pub head_denied : may_read label.caller b.acl ≡ false → S3Step settings old (HeadObject bucket key range conditions part shown) label (Refused AccessDenied) old
+      head_denied e = reads_steps _ _ chosen free (there (in_readable old label.caller key answers_head) ∙ readable_denied old label key answers_head b e)
 
-    pub step_read : (range : Option Range) (conditions : Conditions) (o : Object) → may_read label.caller b.acl ≡ true → get b.objects key ≡ Some o
-        → S3Step settings old (GetObject bucket key range conditions) label (got range conditions o) old
-    step_read range conditions o e is = steps _ _ 0 tt (there (in_readable old label.caller key (reads old (got range conditions)))
-        ∙ readable_there old label key (reads old (got range conditions)) b o e is)
+      pub get_without_key : may_read label.caller b.acl ≡ true → get b.objects key ≡ None
+          → S3Step settings old (GetObject bucket key range conditions part shown) label (Refused NoSuchKey) old
+      get_without_key e none = reads_steps _ _ chosen free (there (in_readable old label.caller key answers_get) ∙ readable_none old label key answers_get b e none)
 
-    pub step_headed : (range : Option Range) (conditions : Conditions) (o : Object) → may_read label.caller b.acl ≡ true → get b.objects key ≡ Some o
-        → S3Step settings old (HeadObject bucket key range conditions) label (headed range conditions o) old
-    step_headed range conditions o e is = steps _ _ 0 tt (there (in_readable old label.caller key (reads old (headed range conditions)))
-        ∙ readable_there old label key (reads old (headed range conditions)) b o e is)
+      pub head_without_key : may_read label.caller b.acl ≡ true → get b.objects key ≡ None
+          → S3Step settings old (HeadObject bucket key range conditions part shown) label (Refused NoSuchKey) old
+      head_without_key e none = reads_steps _ _ chosen free (there (in_readable old label.caller key answers_head) ∙ readable_none old label key answers_head b e none)
+
+      pub step_read : (o : Object) → may_read label.caller b.acl ≡ true → get b.objects key ≡ Some o
+          → S3Step settings old (GetObject bucket key range conditions part shown) label (got (asked_read bucket key range conditions part shown) chosen o) old
+      step_read o e is = reads_steps _ _ chosen free (there (in_readable old label.caller key answers_get) ∙ readable_there old label key answers_get b o e is)
+
+      pub step_headed : (o : Object) → may_read label.caller b.acl ≡ true → get b.objects key ≡ Some o
+          → S3Step settings old (HeadObject bucket key range conditions part shown) label (headed (asked_read bucket key range conditions part shown) chosen o) old
+      step_headed o e is = reads_steps _ _ chosen free (there (in_readable old label.caller key answers_head) ∙ readable_there old label key answers_head b o e is)
 
     -- also where nothing stands under the key
     pub step_gone : (only_if : OnlyIf) → refusal_in only_if key b ≡ None → S3Step settings old (DeleteObject bucket key only_if) label Gone (adjust bucket (drop_object key) old)
@@ -409,9 +477,9 @@ module _ (settings : Settings) (old : State) (bucket key id : List ℕ) (label :
   within : (f : Upload → Outcome) → in_bucket_by (get old bucket) old (in_upload old key id f) ≡ f has.u
   within f = in_found old bucket has.b has.in_bucket (in_upload old key id f) ∙ upload_there old key id f has.b has.u has.in_uploads has.of_key
 
-  pub step_part : (number : ℕ) (body : List ℕ)
-      → S3Step settings old (UploadPart bucket key id number body) label (Stored (body_etag body)) (adjust bucket (on_upload id (with_part number (new_part label.moment body))) old)
-  step_part number body = steps _ _ 0 tt (within (puts_part old bucket id number (new_part label.moment body)))
+  pub step_part : (number : ℕ) (body : List ℕ) (checksum : Option Pair)
+      → S3Step settings old (UploadPart bucket key id number body checksum) label (Stored (body_etag body) checksum) (adjust bucket (on_upload id (with_part number (new_part label.moment body))) old)
+  step_part number body checksum = steps _ _ 0 tt (within (puts_part old bucket id number (new_part label.moment body) checksum))
 
   pub step_parts : (marker max : ℕ) → S3Step settings old (ListParts bucket key id marker max) label (parts_reply bucket key id marker max has.u) old
   step_parts marker max = steps _ _ 0 tt (within (lists_parts old bucket key id marker max))
@@ -580,7 +648,7 @@ module _ (settings : Settings) (old : State) (bucket key id : List ℕ) (number 
       of_object : in_bucket_by (get old bucket) old part_copies ≡ bytes_copies has.o
       of_object = in_open ∙ source_there old from_bucket from_key conditions bytes_copies opened.b has met
 
-      pub part_copy_past_end : has_last range (length has.o.bytes) ≡ false → S3Step settings old part_copying label (Refused bad_range) old
+      pub part_copy_past_end : has_last range (length has.o.bytes) ≡ false → S3Step settings old part_copying label (Refused (bad_range None)) old
       part_copy_past_end e = steps _ _ 0 tt (of_object ∙ unless_true _ _ _ _ (ap not e))
 
       pub part_copy_too_large : has_last range (length has.o.bytes) ≡ true → nat_lt (body_limit settings) (copied_span range (length has.o.bytes)).length ≡ true
@@ -644,8 +712,8 @@ module _ (P : Reply → Type 0) where
 abbrev IsMachineReply : Reply → Type 0
 IsMachineReply reply = (reply ≢ Memory) × (reply ≢ Refused ServiceUnavailable) × (reply ≢ Refused InconsistentStore)
 
-listed_reply : (items : List BucketItem) (reply : Reply) → reply ≡ Buckets items → IsMachineReply reply
-listed_reply items reply e = ((λ f. cc), (λ f. cc), (λ f. cc))
+listed_reply : (asked : BucketListing) (listed : List BucketItem × Bool) (reply : Reply) → reply ≡ buckets_reply asked listed → IsMachineReply reply
+listed_reply asked listed reply e = ((λ f. cc), (λ f. cc), (λ f. cc))
 
 creates_reply : (v : Option Bucket) (old : State) (name : List ℕ) (acl : Acl) (moment : ℕ) (reply : Reply)
     → reply ≡ (creates v old name acl moment).reply → IsMachineReply reply
@@ -701,17 +769,38 @@ module _ (old : State) (reply : Reply) where
   object_acl_reply (Some b) key e = object_acl_by (get b.objects key) b.acl e
 
 -- the replies of the operations that read an object
-read_by_reply : (head : ObjectHead) (bytes : Span → List ℕ) (j : Judged) → IsMachineReply (read_by head bytes j)
-read_by_reply head bytes PreconditionFailed = ((λ f. cc), (λ f. cc), (λ f. cc))
-read_by_reply head bytes NotModified = ((λ f. cc), (λ f. cc), (λ f. cc))
-read_by_reply head bytes InvalidRange = ((λ f. cc), (λ f. cc), (λ f. cc))
-read_by_reply head bytes (Bytes span partial) = ((λ f. cc), (λ f. cc), (λ f. cc))
+read_by_reply : (part : Option ℕ) (shown : List Pair) (head : ObjectHead) (bytes : Span → List ℕ) (j : Judged) → IsMachineReply (read_by part shown head bytes j)
+read_by_reply part shown head bytes PreconditionFailed = ((λ f. cc), (λ f. cc), (λ f. cc))
+read_by_reply part shown head bytes NotModified = ((λ f. cc), (λ f. cc), (λ f. cc))
+read_by_reply None shown head bytes InvalidRange = ((λ f. cc), (λ f. cc), (λ f. cc))
+read_by_reply (Some n) shown head bytes InvalidRange = ((λ f. cc), (λ f. cc), (λ f. cc))
+read_by_reply part shown head bytes (Bytes span partial) = ((λ f. cc), (λ f. cc), (λ f. cc))
 
-got_reply : (range : Option Range) (conditions : Conditions) (o : Object) → IsMachineReply (got range conditions o)
-got_reply range conditions o = read_by_reply (head_of o) (λ span. taken span o.bytes) (judged range conditions (head_of o))
+got_reply : (read : ObjectRead) (chosen : Option Span) (o : Object) → IsMachineReply (got read chosen o)
+got_reply read chosen o = read_by_reply read.part read.shown (head_of o) (λ span. taken span o.bytes) (judged_read read chosen (head_of o))
 
-headed_reply : (range : Option Range) (conditions : Conditions) (o : Object) → IsMachineReply (headed range conditions o)
-headed_reply range conditions o = read_by_reply (head_of o) (λ span. []) (judged range conditions (head_of o))
+headed_reply : (read : ObjectRead) (chosen : Option Span) (o : Object) → IsMachineReply (headed read chosen o)
+headed_reply read chosen o = read_by_reply read.part read.shown (head_of o) (λ span. []) (judged_read read chosen (head_of o))
+
+-- the replies of settings
+unset_is_own : (unset : Unset) → IsMachineReply (unset_reply unset)
+unset_is_own (unset_as.Named code) = ((λ f. cc), (λ f. cc), (λ f. cc))
+unset_is_own (unset_as.Empty page) = ((λ f. cc), (λ f. cc), (λ f. cc))
+
+setting_is_own : (old : State) (key : Option (List ℕ)) (unset : Unset) (b : Bucket) → IsMachineReply (shows_setting old key unset b).reply
+setting_is_own old None unset b = unset_is_own unset
+setting_is_own old (Some key) unset b =
+    in_object_has IsMachineReply (get b.objects key) old (λ o. gives (unset_reply unset) old) ((λ f. cc), (λ f. cc), (λ f. cc)) (λ o there. unset_is_own unset)
+
+setting_reply : (old : State) (v : Option Bucket) (key : Option (List ℕ)) (unset : Unset) → IsMachineReply (in_bucket_by v old (shows_setting old key unset)).reply
+setting_reply old v key unset = in_bucket_has IsMachineReply v old (shows_setting old key unset) ((λ f. cc), (λ f. cc), (λ f. cc)) (λ b e. setting_is_own old key unset b)
+
+-- that of an object that is given a list
+set_object_acl_reply : (old : State) (v : Option Bucket) (key : List ℕ) (acl : Acl) → IsMachineReply (in_bucket_by v old (sets_object_acl old key acl)).reply
+set_object_acl_reply old v key acl =
+    in_bucket_has IsMachineReply v old (sets_object_acl old key acl) ((λ f. cc), (λ f. cc), (λ f. cc))
+    (λ b e. in_object_has IsMachineReply (get b.objects key) old (λ o. unless (is_other_acl (Some acl) b.acl) AccessControlListNotSupported old (gives Done old)) ((λ f. cc), (λ f. cc), (λ f. cc))
+    (λ o there. unless_has IsMachineReply (is_other_acl (Some acl) b.acl) AccessControlListNotSupported old (gives Done old) ((λ f. cc), (λ f. cc), (λ f. cc)) ((λ f. cc), (λ f. cc), (λ f. cc))))
 
 -- the replies of a write by its condition
 condition_reply : (code : Code) → (code ≡ NoSuchKey) ⊎ (code ≡ fails_precondition) → IsMachineReply (Refused code)
@@ -723,15 +812,15 @@ held_reply old only_if key b rest own = unless_refused_has IsMachineReply (refus
 
 -- the replies of the operations on objects
 module _ (old : State) (reply : Reply) where
-  puts_reply : (t : Bool) (only_if : OnlyIf) (key : List ℕ) (b : Bucket) (etag : List ℕ) (new : State)
-      → reply ≡ (unless t NotImplemented old (unless_refused (refusal_in only_if key b) old (gives (Stored etag) new))).reply → IsMachineReply reply
-  puts_reply true only_if key b etag new e = ((λ f. cc), (λ f. cc), (λ f. cc))
-  puts_reply false only_if key b etag new e = subst IsMachineReply (sym e) (held_reply old only_if key b (gives (Stored etag) new) ((λ f. cc), (λ f. cc), (λ f. cc)))
+  puts_reply : (t : Bool) (only_if : OnlyIf) (checksum : Option Pair) (key : List ℕ) (b : Bucket) (etag : List ℕ) (new : State)
+      → reply ≡ (unless t NotImplemented old (unless_refused (refusal_in only_if key b) old (gives (Stored etag checksum) new))).reply → IsMachineReply reply
+  puts_reply true only_if checksum key b etag new e = ((λ f. cc), (λ f. cc), (λ f. cc))
+  puts_reply false only_if checksum key b etag new e = subst IsMachineReply (sym e) (held_reply old only_if key b (gives (Stored etag checksum) new) ((λ f. cc), (λ f. cc), (λ f. cc)))
 
-  put_reply : (v : Option Bucket) (bucket key : List ℕ) (acl : Option Acl) (o : Object) (only_if : OnlyIf) → reply ≡ (in_bucket_by v old (puts old bucket key acl o only_if)).reply
+  put_reply : (v : Option Bucket) (bucket key : List ℕ) (acl : Option Acl) (o : Object) (only_if : OnlyIf) (checksum : Option Pair) → reply ≡ (in_bucket_by v old (puts old bucket key acl o only_if checksum)).reply
       → IsMachineReply reply
-  put_reply None bucket key acl o only_if e = ((λ f. cc), (λ f. cc), (λ f. cc))
-  put_reply (Some b) bucket key acl o only_if e = puts_reply (is_other_acl acl b.acl) only_if key b _ _ e
+  put_reply None bucket key acl o only_if checksum e = ((λ f. cc), (λ f. cc), (λ f. cc))
+  put_reply (Some b) bucket key acl o only_if checksum e = puts_reply (is_other_acl acl b.acl) only_if checksum key b _ _ e
 
   answered_reply : (v : Option Object) (answer : Object → Reply) → ((o : Object) → IsMachineReply (answer o)) → reply ≡ (in_object_by v old (reads old answer)).reply
       → IsMachineReply reply
@@ -798,7 +887,7 @@ module _ (old : State) where
 
   bytes_reply : (settings : Settings) (bucket id : List ℕ) (number : ℕ) (range : Option (ℕ × ℕ)) (moment : ℕ) (o : Object) → IsMachineReply (copies_bytes settings old bucket id number range moment o).reply
   bytes_reply settings bucket id number range moment o =
-      unless_has IsMachineReply (not (has_last range (length o.bytes))) bad_range old
+      unless_has IsMachineReply (not (has_last range (length o.bytes))) (bad_range None) old
       (unless (nat_lt (body_limit settings) (copied_span range (length o.bytes)).length) EntityTooLarge old (puts_copy old bucket id number (new_part moment (bytes_copied range o))))
       ((λ f. cc), (λ f. cc), (λ f. cc))
       (unless_has IsMachineReply (nat_lt (body_limit settings) (copied_span range (length o.bytes)).length) EntityTooLarge old (puts_copy old bucket id number (new_part moment (bytes_copied range o)))
@@ -815,23 +904,25 @@ module _ (old : State) where
 
 objects_reply : (settings : Settings) (old : State) (op : ObjectsOp) (label : Label) (reply : Reply) (new : State) → S3Step settings old (OnObjects op) label reply new → IsMachineReply reply
 objects_reply settings old (objects_op.CreateBucket made) label reply new s = creates_reply (get old made.bucket) old made.bucket made.acl label.moment reply s.replies
-objects_reply settings old objects_op.ListBuckets label reply new s = listed_reply (bucket_items old) reply s.replies
+objects_reply settings old (objects_op.ListBuckets asked) label reply new s = listed_reply asked (bucket_page asked (bucket_items old)) reply s.replies
 objects_reply settings old (objects_op.DeleteBucket bucket) label reply new s = drop_reply old reply (get old bucket) bucket s.replies
 objects_reply settings old (objects_op.HeadBucket bucket) label reply new s = show_reply old reply (get old bucket) label s.replies
 objects_reply settings old (objects_op.GetLocation bucket) label reply new s = locate_reply old reply (get old bucket) settings s.replies
 objects_reply settings old (objects_op.GetBucketAcl bucket) label reply new s = acl_reply old reply (get old bucket) s.replies
 objects_reply settings old (objects_op.PutBucketAcl set) label reply new s = set_reply old reply (get old set.bucket) set.bucket set.acl s.replies
 objects_reply settings old (objects_op.GetObjectAcl name) label reply new s = object_acl_reply old reply (get old name.bucket) name.key s.replies
-objects_reply settings old (objects_op.PutObject put) label reply new s = put_reply old reply (get old put.bucket) put.bucket put.key put.acl (new_object label.moment put.content.content_type put.content.meta put.content.body) put.only_if s.replies
-objects_reply settings old (objects_op.HeadObject read) label reply new s = read_reply old reply (get old read.bucket) label read.key (headed read.range read.conditions) (headed_reply read.range read.conditions) s.replies
+objects_reply settings old (objects_op.PutObjectAcl set) label reply new s = subst IsMachineReply (sym s.replies) (set_object_acl_reply old (get old set.bucket) set.key set.acl)
+objects_reply settings old (objects_op.GetSetting read) label reply new s = subst IsMachineReply (sym s.replies) (setting_reply old (get old read.bucket) read.key read.unset)
+objects_reply settings old (objects_op.PutObject put) label reply new s = put_reply old reply (get old put.bucket) put.bucket put.key put.acl (new_object label.moment put.content.content_type put.content.meta put.content.body) put.only_if put.checksum s.replies
+objects_reply settings old (objects_op.HeadObject read) label reply new s = read_reply old reply (get old read.bucket) label read.key (headed read s.choice.part) (headed_reply read s.choice.part) s.replies
 objects_reply settings old (objects_op.ListObjects list) label reply new s = list_reply old reply (get old list.bucket) label list.bucket list.asked s.replies
 objects_reply settings old (objects_op.DeleteObject deletion) label reply new s = delete_reply old reply (get old deletion.bucket) deletion.bucket deletion.key deletion.only_if s.replies
 objects_reply settings old (objects_op.DeleteObjects deletion) label reply new s = subst IsMachineReply (sym s.replies) (delete_all_reply old (get old deletion.bucket) deletion.bucket deletion.keys deletion.quiet)
 
 uploads_reply : (settings : Settings) (old : State) (op : UploadsOp) (label : Label) (reply : Reply) (new : State) → S3Step settings old (OnUploads op) label reply new → IsMachineReply reply
 uploads_reply settings old (uploads_op.ListUploads list) label reply new s = subst IsMachineReply (sym s.replies) (lists_uploads_reply old (get old list.bucket) list.bucket list.asked.prefix list.asked.key_marker list.asked.id_marker list.asked.max list.asked.url)
-uploads_reply settings old (uploads_op.CreateUpload start) label reply new s = subst IsMachineReply (sym s.replies) (starts_reply old (get old start.bucket) start.bucket start.key start.acl (new_upload start.key start.described.content_type start.described.meta label.moment) s.id)
-uploads_reply settings old (uploads_op.UploadPart part) label reply new s = subst IsMachineReply (sym s.replies) (upload_reply old (get old part.bucket) part.key part.id (puts_part old part.bucket part.id part.number (new_part label.moment part.body)) (λ u. ((λ f. cc), (λ f. cc), (λ f. cc))))
+uploads_reply settings old (uploads_op.CreateUpload start) label reply new s = subst IsMachineReply (sym s.replies) (starts_reply old (get old start.bucket) start.bucket start.key start.acl (new_upload start.key start.described.content_type start.described.meta label.moment) s.choice.id)
+uploads_reply settings old (uploads_op.UploadPart part) label reply new s = subst IsMachineReply (sym s.replies) (upload_reply old (get old part.bucket) part.key part.id (puts_part old part.bucket part.id part.number (new_part label.moment part.body) part.checksum) (λ u. ((λ f. cc), (λ f. cc), (λ f. cc))))
 uploads_reply settings old (uploads_op.ListParts list) label reply new s = subst IsMachineReply (sym s.replies) (upload_reply old (get old list.bucket) list.key list.id (lists_parts old list.bucket list.key list.id list.asked.marker list.asked.max) (λ u. ((λ f. cc), (λ f. cc), (λ f. cc))))
 uploads_reply settings old (uploads_op.CompleteUpload completion) label reply new s = subst IsMachineReply (sym s.replies) (completes_reply old (get old completion.bucket) settings completion.bucket completion.key completion.id completion.list completion.only_if label.moment)
 uploads_reply settings old (uploads_op.AbortUpload upload) label reply new s = subst IsMachineReply (sym s.replies) (upload_reply old (get old upload.bucket) upload.key upload.id (aborts old upload.bucket upload.id) (λ u. ((λ f. cc), (λ f. cc), (λ f. cc))))
@@ -845,7 +936,7 @@ copies_op_reply settings old (copies_op.CopyPart copy) label reply new s =
 -- the machine itself never gives the reply of wanting memory, nor the two codes of the store below it
 pub machine_reply : (settings : Settings) (old : State) (op : Op) (label : Label) (reply : Reply) (new : State) → S3Step settings old op label reply new
     → (reply ≢ Memory) × (reply ≢ Refused ServiceUnavailable) × (reply ≢ Refused InconsistentStore)
-machine_reply settings old (op_as.GetObject read) label reply new s = read_reply old reply (get old read.bucket) label read.key (got read.range read.conditions) (got_reply read.range read.conditions) s.replies
+machine_reply settings old (op_as.GetObject read) label reply new s = read_reply old reply (get old read.bucket) label read.key (got read s.choice.part) (got_reply read s.choice.part) s.replies
 machine_reply settings old (OnObjects op) label reply new s = objects_reply settings old op label reply new s
 machine_reply settings old (OnUploads op) label reply new s = uploads_reply settings old op label reply new s
 machine_reply settings old (OnCopies op) label reply new s = copies_op_reply settings old op label reply new s

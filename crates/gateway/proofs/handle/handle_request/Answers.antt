@@ -2,7 +2,11 @@ use Rattle.std.proofs.Common.{subst}
 use Rattle.gateway.specs.Handled.{EndsWith}
 use Rattle.gateway.specs.Request.{asks_of}
 use Rattle.gateway.proofs.Handling.{handled_on, handled_knows, handled_stands, handled_effect}
+use Rattle.gateway.proofs.Replying.{understood_proper}
 use Rattle.gateway.proofs.handle.handle_request.Goals as goal
+
+pub reply_to-reading-requires-clause-proper : goal.reply_to-reading-requires-clause-proper
+reply_to-reading-requires-clause-proper g c = understood_proper _ _ c.resolve-resolved.ensures.is.understands
 
 pub returns-clause-serves : goal.returns-clause-serves
 returns-clause-serves g c =

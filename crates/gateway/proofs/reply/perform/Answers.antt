@@ -1,7 +1,15 @@
 use Rattle.s3_machine.specs.declared.operation.Op.TheVariants as op_as
 use Rattle.gateway.proofs.Operating.{copies_read_none, objects_read_none, performs_or_finds, uploads_read_none}
 use Rattle.gateway.proofs.Bodiless.{copy_bodiless, upload_bodiless}
+use Rattle.std.proofs.Common.{subst}
+use Rattle.s3_machine.specs.Parts.{AsksNoPart}
 use Rattle.gateway.proofs.reply.perform.Goals as goal
+
+pub find_object-requires : goal.find_object-requires
+find_object-requires g c = record { planned = subst AsksNoPart c.in-GetObject.is c.requires.planned }
+
+pub answer-requires : goal.answer-requires
+answer-requires g c = record { planned = subst AsksNoPart c.in-OnObjects.is c.requires.planned }
 
 pub returns-in-GetObject-clause-performs : goal.returns-in-GetObject-clause-performs
 returns-in-GetObject-clause-performs g c = rw c.in-GetObject.is

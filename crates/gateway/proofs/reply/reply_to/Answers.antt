@@ -3,7 +3,11 @@ use Rattle.account_calls.proofs.lemmas.Idle.{goes_none}
 use Rattle.gateway.specs.ResolvedRequest.{Understands}
 use Rattle.gateway.proofs.Operating.{ready_of, asks_reads}
 use Rattle.gateway.proofs.Replying.{code_meant, replied_by, replied_refused, replied_memory, stands_still}
+use Rattle.s3_requests.specs.Proper.{IsProperMeant}
 use Rattle.gateway.proofs.reply.reply_to.Goals as goal
+
+pub settle_and_perform-requires-clause-planned : goal.settle_and_perform-requires-clause-planned
+settle_and_perform-requires-clause-planned g c = subst IsProperMeant c.in-Op.is c.requires.proper
 
 pub returns-in-Op-clause-ready : goal.returns-in-Op-clause-ready
 returns-in-Op-clause-ready g c = ready_of c.args.settings.now c.in-Op.op c.args.label.now (g.W.Swift.history c.args.store.now) (g.W.Swift.history c.settle_and_perform.new.store) c.args.known.now c.settle_and_perform.new.known c.settle_and_perform.result c.requires.knows c.settle_and_perform.ensures.operated

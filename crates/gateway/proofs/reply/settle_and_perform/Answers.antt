@@ -15,7 +15,7 @@ perform_on_settled_store-answer-requires g c =
       | in-Settled w ↦ readied_at_once w.in-Settled.is (ap g.W.Swift.history w.store-is)
       | in-Unsure+in-Ok w ↦ readied_by w.in-Unsure.is (ap g.W.Swift.history w.store-is) w.in-Ok.ensures
     ] in
-    record { settled = settled_now readied c.requires.knows }
+    record { planned = c.requires.planned; settled = settled_now readied c.requires.knows }
 
 pub returns-clause-operated : goal.returns-clause-operated
 returns-clause-operated g c =

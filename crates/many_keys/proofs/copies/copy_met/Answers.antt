@@ -1,4 +1,4 @@
-use Rattle.std.proofs.Common.{arith, lit≤, rules}
+use Rattle.std.proofs.Common.{arith, lit≤}
 use Rattle.std.proofs.lemmas.Bool.Decides.{nat_tests}
 use Rattle.many_keys.proofs.CopySteps.{as_few, plans_of_parts, plans_wider}
 use Rattle.many_keys.proofs.CopiedFrom.{copied_of_parts, told_kind, told_unrefused}

@@ -1,4 +1,4 @@
-use Rattle.std.specs.Prelude.{◌+◌, IfSome, length}
+use Rattle.std.specs.Prelude.{IfSome, length}
 use Rattle.std.proofs.Common.{ap, arith, sym, subst, refl, ◌∙◌}
 use Rattle.upload_records.specs.Native.{sub_manifests}
 use Rattle.account_calls.specs.Answers.{condition_calls}

@@ -12,8 +12,6 @@ use Rattle.plan_uploads.proofs.Completions.{has_parts, opened_parts}
 use Rattle.plan_uploads.specs.declared.complete.Completing.{Completing}
 use Rattle.plan_uploads.proofs.CompletionEnds.{refused_ensures}
 use Rattle.account_calls.proofs.lemmas.Refusals.{stops_unshown}
-use Rattle.account_calls.specs.Refusals.{Stops}
-use Rattle.account_calls.specs.Shows.{alone}
 use Rattle.plan_uploads.proofs.Unfinished.{broke_behind, not_begun, not_needed}
 use Rattle.plan_uploads.specs.Replies.{AnswersUpload}
 use Rattle.plan_uploads.proofs.complete.complete_open.Goals as goal

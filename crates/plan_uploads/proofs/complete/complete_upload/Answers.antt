@@ -3,7 +3,7 @@ use Rattle.account_calls.specs.Answers.{condition_calls, pages, named_by}
 use Rattle.account_calls.specs.Calls.{always}
 use Rattle.account_calls.proofs.lemmas.Ends.{met_settled, goes_on_from}
 use Rattle.upload_calls.proofs.lemmas.Asking.{after_told_of, asked_in_vain, asked_reply}
-use Rattle.plan_uploads.specs.Completing.{IsCompleted, LacksCompletion, lacks_bucket}
+use Rattle.plan_uploads.specs.Completing.{lacks_bucket}
 use Rattle.plan_uploads.specs.declared.completed.ToComplete.TheVariants.{NoBucket, NoUpload, Again, Open}
 use Rattle.account_calls.proofs.lemmas.Puts.{ensures_less}
 use Rattle.s3_machine.specs.declared.code.Code.TheVariants.{NoSuchBucket, NoSuchUpload}
@@ -11,8 +11,6 @@ use Rattle.plan_uploads.specs.declared.complete.Completing.{Completing}
 use Rattle.plan_uploads.proofs.CompletionEnds.{again_ensures, asked_out_of_memory, ends_answered, ends_with_fault, refused_ensures}
 use Rattle.plan_uploads.proofs.FoundCompletion.{complete_lost, complete_missing, completed_again, named_alike, two_calls, unkept_calls}
 use Rattle.account_calls.proofs.lemmas.Refusals.{stops_behind}
-use Rattle.account_calls.specs.Refusals.{Stops}
-use Rattle.account_calls.specs.Shows.{alone}
 use Rattle.std.specs.Prelude.{◌+◌, length}
 use Rattle.swift_calls.specs.History.{present}
 use Rattle.upload_records.specs.Native.{s3_state, sub_manifests}

@@ -1,4 +1,3 @@
-use Rattle.std.specs.Prelude.{Ok, IfOk}
 use Rattle.std.proofs.Common.{subst, lit≤, rules, ap, arith}
 use Rattle.account_calls.specs.Calls.{always}
 use Rattle.account_calls.proofs.lemmas.Ends.{met_settled, goes_on_from}
@@ -16,12 +15,12 @@ returns-in_err-find_upload-clause-plans g c = asked_in_vain (always 2) (lit≤ t
 pub returns-in-NoBucket-clause-plans : goal.returns-in-NoBucket-clause-plans
 returns-in-NoBucket-clause-plans g c =
     asked_reply (always 2) (lit≤ tt) (λ tree has. has.settled) NoBucket c.in-NoBucket.is _ c.in_ok-find_upload.ensures.asks (search rules)
-    (λ tree sound has missing. part_missing _ _ _ _ missing _ _ _ _)
+    (λ tree sound has missing. part_missing _ _ _ _ missing _ _ _ _ _)
 
 pub returns-in-NoUpload-clause-plans : goal.returns-in-NoUpload-clause-plans
 returns-in-NoUpload-clause-plans g c =
     asked_reply (always 2) (lit≤ tt) (λ tree has. has.settled) NoUpload c.in-NoUpload.is _ c.in_ok-find_upload.ensures.asks (search rules)
-    (λ tree sound has lacks. part_lost _ _ _ _ _ tree c.fits.ensures lacks _ _)
+    (λ tree sound has lacks. part_lost _ _ _ _ _ tree c.fits.ensures lacks _ _ _)
 
 pub returns-in-Open-clause-plans : goal.returns-in-Open-clause-plans
 returns-in-Open-clause-plans g c =

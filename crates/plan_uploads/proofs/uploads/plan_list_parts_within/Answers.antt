@@ -4,7 +4,7 @@ use Rattle.s3_names.specs.Id.{id_digits}
 use Rattle.swift_calls.specs.History.{present}
 use Rattle.account_calls.specs.Answers.{named_by, pages}
 use Rattle.account_calls.specs.Calls.{by_account}
-use Rattle.account_calls.proofs.lemmas.Ends.{as_wide, met_within}
+use Rattle.account_calls.proofs.lemmas.Ends.{as_wide}
 use Rattle.account_calls.specs.Listing.{TellsOf}
 use Rattle.upload_calls.specs.Records.{TellsParts}
 use Rattle.upload_calls.proofs.lemmas.Asking.{asked_in_vain, asked_end}

@@ -6,8 +6,6 @@ use Rattle.account_calls.specs.Calls.{by_account}
 use Rattle.account_calls.specs.Plan.{IsOwnReply}
 use Rattle.account_calls.proofs.lemmas.Ends.{as_wide, met_settled, needs_none, calls_in_vain, calls_end}
 use Rattle.planner.proofs.Listings.{items_are_own, list_refused, list_told}
-use Rattle.account_calls.specs.Refusals.{Stops}
-use Rattle.account_calls.specs.Shows.{alone}
 use Rattle.planner.specs.Reading.{GivesNoByte}
 use Rattle.planner.proofs.listing.plan_list_objects_within.Goals as goal
 

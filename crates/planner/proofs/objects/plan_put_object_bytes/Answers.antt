@@ -12,12 +12,15 @@ use Rattle.planner.proofs.objects.plan_put_object_bytes.Goals as goal
 pub returns-in_err-text-clause-plans : goal.returns-in_err-text-clause-plans
 returns-in_err-text-clause-plans g c = λ list same. out_of_memory _ _ c.from_residual.ensures.1
 
+pub returns-in_err-checksum-clause-plans : goal.returns-in_err-checksum-clause-plans
+returns-in_err-checksum-clause-plans g c = λ list same. out_of_memory _ _ c.from_residual-in_err-checksum.ensures.1
+
 pub returns-clause-plans : goal.returns-clause-plans
 returns-clause-plans g c = λ list same.
     subst (Plans _ _ _ _ _ _ _ _) (sym c.stored_end.ensures)
     (commits _ (lit≤ tt) c.put_object.ensures.changes (λ done. search rules) (λ tree there. (list, there.in_bucket))
-    (λ tree done new there is. becomes (put_stored c.args.state.now.settings.now _ c.args.put.bucket c.args.put.key c.args.label.now _ there.in_bucket c.args.put.acl c.args.put.content.content_type c.args.put.content.meta c.args.put.content.body _ c.args.put.only_if
-    same there.told (c.in_ok-text.ensures ∙ c.requires.etag)) is))
+    (λ tree done new there is. becomes (put_stored c.args.state.now.settings.now _ c.args.put.bucket c.args.put.key c.args.label.now _ there.in_bucket c.args.put.acl c.args.put.content.content_type c.args.put.content.meta c.args.put.content.body _ c.args.put.only_if c.args.put.checksum _
+    same there.told (c.in_ok-text.ensures ∙ c.requires.etag) c.in_ok-checksum.ensures) is))
 
 pub returns-clause-stands : goal.returns-clause-stands
 returns-clause-stands g c = subst (EnsuresIfDone _ _) (sym c.stored_end.ensures) (ensures_ended _ _ c.put_object.ensures.stands)

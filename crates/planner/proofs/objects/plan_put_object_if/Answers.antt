@@ -16,7 +16,7 @@ returns-in_default-clause-plans g c = λ list same.
 pub returns-clause-plans : goal.returns-clause-plans
 returns-clause-plans g c = λ list same.
     refuses c.args.put.bucket c.args.put.key c.args.put.only_if list c.in-Some.code c.in-Some.is (subst (λ r. IfSome r IsOfCondition) c.in-Some.is c.in_ok-refused.ensures.codes) c.in_ok-refused.ensures.asks
-    (λ state there told. put_refused c.args.state.now.settings.now state c.args.put.bucket c.args.put.key c.args.label.now list there c.args.put.acl c.args.put.content.content_type c.args.put.content.meta c.args.put.content.body c.args.put.only_if c.in-Some.code same told)
+    (λ state there told. put_refused c.args.state.now.settings.now state c.args.put.bucket c.args.put.key c.args.label.now list there c.args.put.acl c.args.put.content.content_type c.args.put.content.meta c.args.put.content.body c.args.put.only_if c.args.put.checksum c.in-Some.code same told)
 
 pub returns-in_default-clause-stops : goal.returns-in_default-clause-stops
 returns-in_default-clause-stops g c = stops_unrefused _ c.plan_put_object_met.ensures.unrefused

@@ -9,7 +9,7 @@ pub returns-in_err-list-clause-plans : goal.returns-in_err-list-clause-plans
 returns-in_err-list-clause-plans g c = told_nothing (omega arith) c.in_err-list.ensures.asks _ c.from_residual.ensures.1
 
 pub returns-in_default-clause-plans : goal.returns-in_default-clause-plans
-returns-in_default-clause-plans g c = answers (omega arith) None c.in_default.is _ c.in_ok-list.ensures.asks (search rules) (λ tree any told. put_missing _ _ _ _ _ told _ _ _ _ _)
+returns-in_default-clause-plans g c = answers (omega arith) None c.in_default.is _ c.in_ok-list.ensures.asks (search rules) (λ tree any told. put_missing _ _ _ _ _ told _ _ _ _ _ _)
 
 pub returns-clause-plans : goal.returns-clause-plans
 returns-clause-plans g c = goes_on (omega arith) (Some c.in-Some.list) c.in-Some.is c.head_bucket.ensures.stays.settings c.in_ok-list.ensures.asks c.plan_put_object_within.ensures.plans (λ tree any told. told)

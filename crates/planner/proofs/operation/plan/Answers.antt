@@ -1,7 +1,12 @@
-use Rattle.std.proofs.Common.{lit≤}
+use Rattle.std.proofs.Common.{lit≤, subst}
+use Rattle.s3_machine.specs.Parts.{AsksNoPart}
+use Rattle.s3_machine.specs.declared.operation.Op.TheVariants.{OnObjects}
 use Rattle.account_calls.proofs.lemmas.Puts.{ensures_nothing}
 use Rattle.account_calls.proofs.lemmas.Refusals.{stops_at_once, stops_unrefused}
 use Rattle.planner.proofs.operation.plan.Goals as goal
+
+pub head_object-requires : goal.head_object-requires
+head_object-requires g c = record { planned = subst (λ op. AsksNoPart (OnObjects op)) c.in-HeadObject.is c.requires.planned }
 
 pub returns-in-ListBuckets-clause-plans : goal.returns-in-ListBuckets-clause-plans
 returns-in-ListBuckets-clause-plans g c = rw c.in-ListBuckets.is (c.list_buckets.ensures.plans c.args.label.now)
@@ -26,6 +31,12 @@ returns-in-DeleteObjects-clause-plans g c = rw c.in-DeleteObjects.is (c.delete_o
 
 pub returns-in-GetObjectAcl-clause-plans : goal.returns-in-GetObjectAcl-clause-plans
 returns-in-GetObjectAcl-clause-plans g c = rw c.in-GetObjectAcl.is (c.get_object_acl.ensures.plans c.args.label.now)
+
+pub returns-in-PutObjectAcl-clause-plans : goal.returns-in-PutObjectAcl-clause-plans
+returns-in-PutObjectAcl-clause-plans g c = rw c.in-PutObjectAcl.is (c.put_object_acl.ensures.plans c.args.label.now)
+
+pub returns-in-GetSetting-clause-plans : goal.returns-in-GetSetting-clause-plans
+returns-in-GetSetting-clause-plans g c = rw c.in-GetSetting.is (c.get_setting.ensures.plans c.args.label.now)
 
 pub returns-in-ListBuckets-clause-stands : goal.returns-in-ListBuckets-clause-stands
 returns-in-ListBuckets-clause-stands g c = rw c.in-ListBuckets.is (ensures_nothing _)
@@ -62,6 +73,12 @@ returns-in-DeleteObjects-clause-stands g c = rw c.in-DeleteObjects.is (ensures_n
 
 pub returns-in-GetObjectAcl-clause-stands : goal.returns-in-GetObjectAcl-clause-stands
 returns-in-GetObjectAcl-clause-stands g c = rw c.in-GetObjectAcl.is (ensures_nothing _)
+
+pub returns-in-PutObjectAcl-clause-stands : goal.returns-in-PutObjectAcl-clause-stands
+returns-in-PutObjectAcl-clause-stands g c = rw c.in-PutObjectAcl.is (ensures_nothing _)
+
+pub returns-in-GetSetting-clause-stands : goal.returns-in-GetSetting-clause-stands
+returns-in-GetSetting-clause-stands g c = rw c.in-GetSetting.is (ensures_nothing _)
 
 pub returns-in-ListBuckets-clause-stops : goal.returns-in-ListBuckets-clause-stops
 returns-in-ListBuckets-clause-stops g c = rw c.in-ListBuckets.is (stops_unrefused _ c.list_buckets.ensures.unrefused)

@@ -12,7 +12,7 @@ pub returns-in_err-list-clause-finds : goal.returns-in_err-list-clause-finds
 returns-in_err-list-clause-finds g c = found_nothing _ 2 _ _ _ Any (GetObject c.args.read) c.args.label.now (omega arith) c.in_err-list.ensures.asks _ c.from_residual.ensures.1
 
 pub returns-in_default-clause-finds : goal.returns-in_default-clause-finds
-returns-in_default-clause-finds g c = answers (omega arith) None c.in_default.is _ c.in_ok-list.ensures.asks (search rules) (λ tree any told. get_missing _ _ _ _ _ _ _ told)
+returns-in_default-clause-finds g c = answers (omega arith) None c.in_default.is _ c.in_ok-list.ensures.asks (search rules) (λ tree any told. get_missing _ _ _ _ _ _ _ _ c.requires.planned _ told)
 
 pub returns-clause-finds : goal.returns-clause-finds
 returns-clause-finds g c = finds_on _ _ 1 _ _ _ _ _ Any (λ s. TellsBucket c.args.read.bucket s (Some c.in-Some.list)) (GetObject c.args.read) c.args.label.now (omega arith) (Some c.in-Some.list) c.in-Some.is c.head_bucket.ensures.stays.settings c.in_ok-list.ensures.asks (λ tree any told. told) _ c.found_object_within.ensures.finds

@@ -30,7 +30,7 @@ returns-clause-changes g c =
       is = c.fits.ensures;
       fits = c.ranges.id.fits;
     })) c.in_ok-reply.ensures.calls _
-    (c.interpret_put_with_etag.ensures.due ∙ ap (λ etag. stored_due etag c.in_ok-reply.reply) (c.body_etag-etag.ensures ∙ ap body_etag c.as_slice.ensures)) c.interpret_put_with_etag.ensures.own
+    (c.interpret_put_with_etag-end.ensures.due ∙ ap (λ etag. stored_due etag c.in_ok-reply.reply) (c.body_etag-etag.ensures ∙ ap body_etag c.as_slice.ensures)) c.interpret_put_with_etag-end.ensures.own
 
 pub returns-clause-stands : goal.returns-clause-stands
-returns-clause-stands g c = stands_open _ c.in_ok-request.ensures.request c.in_ok-text.ensures.reads c.in_ok-reply.ensures.calls _ c.interpret_put_with_etag.ensures.due
+returns-clause-stands g c = stands_open _ c.in_ok-request.ensures.request c.in_ok-text.ensures.reads c.in_ok-reply.ensures.calls _ c.interpret_put_with_etag-end.ensures.due

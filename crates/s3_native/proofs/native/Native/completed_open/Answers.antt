@@ -9,10 +9,10 @@ use Rattle.s3_machine.specs.Step.{refusal_in}
 use Rattle.s3_machine.specs.Uploads.{etag_listed, upload_etag}
 use Rattle.s3_native.specs.Native.{closed, joined_by, kept_by, refuses}
 use Rattle.s3_native.proofs.Completing.{completes_flat, held_flat, refuses_flat}
-use Rattle.s3_native.proofs.native.Native.complete_open.Goals as goal
+use Rattle.s3_native.proofs.native.Native.completed_open.Goals as goal
 
-pub returns-in-Some-refuses-clause-ok : goal.returns-in-Some-refuses-clause-ok
-returns-in-Some-refuses-clause-ok c =
+pub returns-in-Some-refuses : goal.returns-in-Some-refuses
+returns-in-Some-refuses c =
     let self = c.args.self.now in
     let done = c.args.done.now in
     let b = c.in-Some.found.now in
@@ -26,8 +26,8 @@ returns-in-Some-refuses-clause-ok c =
     ∙ sym c.refuses.ensures in
     refuses_flat self.settings self.state done.bucket done.key done.id c.args.label.now done.list done.only_if b u found there (search rules) (c.requires b found) _ (judged ∙ c.in-Some-refuses.is)
 
-pub returns-in-Some-refuses-2-clause-ok : goal.returns-in-Some-refuses-2-clause-ok
-returns-in-Some-refuses-2-clause-ok c =
+pub returns-in-Some-refuses-2 : goal.returns-in-Some-refuses-2
+returns-in-Some-refuses-2 c =
     let self = c.args.self.now in
     let done = c.args.done.now in
     let b = c.in-Some.found.now in
@@ -42,8 +42,8 @@ returns-in-Some-refuses-2-clause-ok c =
     let held = sym (ap (λ (key : List ℕ). refusal_in done.only_if key b) c.bytes-3.ensures.value) ∙ sym c.refuses-2.ensures in
     held_flat self.settings self.state done.bucket done.key done.id c.args.label.now done.list done.only_if b u found there (search rules) (c.requires b found) (judged ∙ c.in_default-refuses.is) _ (held ∙ c.in-Some-refuses-2.is)
 
-pub returns-clause-ok : goal.returns-clause-ok
-returns-clause-ok c =
+pub returns : goal.returns
+returns c =
     let self = c.args.self.now in
     let done = c.args.done.now in
     let b = c.in-Some.found.now in
@@ -56,10 +56,10 @@ returns-clause-ok c =
     ∙ sym (ap (λ (list : List Listed). refuses c.self.inside.settings.least_part u.parts list) (c.as_slice-2.ensures ∙ c.get-list.ensures.value))
     ∙ sym c.refuses.ensures in
     let held = sym (ap (λ (key : List ℕ). refusal_in done.only_if key b) c.bytes-3.ensures.value) ∙ sym c.refuses-2.ensures in
-    let made = c.in_ok-etag.ensures in
+    let made = c.in_ok-completed.ensures in
     let list = c.get-list.ensures.value in
+    let moment = c.args.label.now.moment in
     completes_flat self.settings self.state done.bucket done.key done.id c.args.label.now done.list done.only_if b u found there (search rules) (c.requires b found) (judged ∙ c.in_default-refuses.is) (held ∙ c.in_default-refuses-2.is) _ _
-    ((λ i. Completed (c.in_ok-bucket.ensures.value i) (c.in_ok-key.ensures.value i) (made i).0) ∙ (λ i. Completed done.bucket done.key (upload_etag (map etag_listed (list i)))))
-    (c.in_ok-close_native_upload.ensures.ok
-    ∙ (λ i. adjust (c.bytes-4.ensures.value i) (closed (c.bytes-5.ensures.value i) (c.as_slice-3.ensures i) (made i).1 (made i).2) (state i))
-    ∙ (λ i. adjust done.bucket (closed done.key done.id (joined_by u (list i) c.args.label.now.moment) (kept_by u (list i) c.args.label.now.moment)) self.state))
+    ((λ i. Completed done.bucket done.key (made i).0) ∙ (λ i. Completed done.bucket done.key (upload_etag (map etag_listed (list i)))))
+    ((λ i. adjust done.bucket (closed done.key done.id (made i).1 (made i).2) self.state)
+    ∙ (λ i. adjust done.bucket (closed done.key done.id (joined_by u (list i) moment) (kept_by u (list i) moment)) self.state))

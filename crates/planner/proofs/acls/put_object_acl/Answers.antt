@@ -1,0 +1,21 @@
+use Rattle.std.specs.Prelude.{None, Some}
+use Rattle.std.proofs.Common.{lit≤, rules}
+use Rattle.account_calls.proofs.lemmas.Ends.{told_nothing, answers, goes_on}
+use Rattle.planner.proofs.BucketSteps.{set_object_acl_missing}
+use Rattle.account_calls.proofs.lemmas.Refusals.{stops_behind}
+use Rattle.planner.proofs.acls.put_object_acl.Goals as goal
+
+pub returns-in_err-list-clause-plans : goal.returns-in_err-list-clause-plans
+returns-in_err-list-clause-plans g c = λ label. told_nothing (lit≤ tt) c.in_err-list.ensures.asks _ c.from_residual.ensures.1
+
+pub returns-in_default-clause-plans : goal.returns-in_default-clause-plans
+returns-in_default-clause-plans g c = λ label.
+    answers (lit≤ tt) None c.in_default.is _ c.in_ok-list.ensures.asks (search rules) (λ tree any told. set_object_acl_missing _ _ _ _ told _ _)
+
+pub returns-clause-plans : goal.returns-clause-plans
+returns-clause-plans g c = λ label.
+    goes_on (lit≤ tt) (Some c.in-Some.list) c.in-Some.is c.head_bucket.ensures.stays.settings c.in_ok-list.ensures.asks (c.plan_put_object_acl_within.ensures.plans label)
+    (λ tree any told. told)
+
+pub returns-clause-stops : goal.returns-clause-stops
+returns-clause-stops g c = stops_behind c.in_ok-list.ensures.asks _ c.plan_put_object_acl_within.ensures.stops
