@@ -1464,7 +1464,7 @@ def calls_are_spelled(check):
         head, nobody = call(f"HEAD {bucket}"), "X-Container-Read: "
         moment = moment_of(gate.ask("PUT", "/photos", [("x-amz-acl", "public-read")]))
         came = heard(store)
-        check("the calls that settle the store", [call(f"PUT {root}/%2Bgateway", nobody), call(f"GET {root}/%2Bgateway/sealed")], came[:SETTLING])
+        check("the calls that settle the store", [call(f"PUT {root}/%2Bgateway", nobody), call(f"GET {root}/%2Bgateway/sealed", "X-Newest: true")], came[:SETTLING])
         sides = [call(f"PUT {bucket}%2B{it}", nobody) for it in ("uploads", "segments")] + [call(f"GET {bucket}%2B{it}{page}") for it in ("uploads", "segments")]
         put = call(f"PUT {bucket}", "X-Container-Read: .r:*,.rlistings", f"X-Container-Meta-S3-Created: {moment}")
         check("the calls of CreateBucket", [head, *sides, put], came[SETTLING:])
